@@ -1,0 +1,11 @@
+pub mod Verdicts
+pub mod Accepts
+pub mod Refuses
+pub mod Sets
+pub mod Fields
+pub mod Rising
+pub mod Parts
+pub mod States
+pub mod Unique
+pub mod Checked
+pub mod Files

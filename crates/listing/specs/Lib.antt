@@ -1,0 +1,7 @@
+pub mod Words
+pub mod Listings
+pub mod Faults
+pub mod Sets
+pub mod Graphs
+pub mod Files
+pub mod Checks

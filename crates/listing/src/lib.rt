@@ -1,0 +1,6 @@
+// The listing format: which words are a listing, and where the first fault is.
+pub mod check;
+pub mod counts;
+pub mod fault;
+pub mod file;
+mod word;
