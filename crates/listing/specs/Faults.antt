@@ -5,6 +5,8 @@
 --   fits ws f        the fault f is a fault of the words ws
 --   Before f g       f comes before g: at a lower place, or at the same place with a lower number
 --   FirstFault ws f  f is a fault of ws, and none of its faults comes before f
+--   Inside ws c p    the opening word of ws gives the counts c, there are as many words as it asks for, and p is the
+--                    place of one of them after the first
 --   openingFaults    the faults at place 0, lowest number first
 --   faultsAt p       the faults that a word after the first can have at place p, lowest number first
 --   ranked n         every fault that n words can have, each before those that it comes before
@@ -72,6 +74,12 @@ Before f g = (placeOf f < placeOf g) ⊎ ((placeOf f ≡ placeOf g) × (numberOf
 
 abbrev pub FirstFault : List ℕ → Fault → Type 0
 FirstFault ws f = (fits ws f ≡ true) × ((g : Fault) → fits ws g ≡ true → Before g f → ⊥)
+
+pub record Inside (ws : List ℕ) (c : Counts) (p : ℕ) : Type 0 where
+  pub counted : c ≡ countsOf ws
+  pub whole : length ws ≡ c .blocks + c .wires + 2
+  pub after : 0 < p
+  pub within : p < length ws
 
 abbrev pub at : ℕ → Place
 at p = record { 0 = p }

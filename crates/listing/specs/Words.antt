@@ -2,6 +2,7 @@
 --
 --   field low width w   the number that `width` bits of w hold, from bit `low` up
 --   kind w              bits 31 and 30, which say what sort of word w is
+--   kindNumber k        the number of each kind
 --   openingBlocks w     the block count that an opening word gives, bits 15 to 0
 --   openingWires w      the wire count that an opening word gives, bits 29 to 16
 --   blockTags w         the set of tags that a block word gives, bits 23 to 0: tag k is in it when bit k is 1
@@ -14,12 +15,20 @@
 use Prim.Native.Nat.{ℕ, _/_, _%_, _^_}
 use mathlib.Core.Bool.{Bool, _&&_}
 use lib.Dec.{eqb, leb, ltb}
+use Rattle.listing.specs.declared.word.Kind.{Kind}
+use Rattle.listing.specs.declared.word.Kind.the-variants.{Opening, Block, Wire, Closing}
 
 abbrev pub field : ℕ → ℕ → ℕ → ℕ
 field low width w = w / 2 ^ low % 2 ^ width
 
 abbrev pub kind : ℕ → ℕ
 kind w = w / 2 ^ 30
+
+abbrev pub kindNumber : Kind → ℕ
+kindNumber Opening = 0
+kindNumber Block = 1
+kindNumber Wire = 2
+kindNumber Closing = 3
 
 abbrev pub openingBlocks : ℕ → ℕ
 openingBlocks w = field 0 16 w

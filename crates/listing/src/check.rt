@@ -1,13 +1,13 @@
 ghost use mathlib.Core.Path.{_≡_};
 ghost use mathlib.Core.Bool.{true, not};
-ghost use Prim.Native.Nat.{_+_, _<_, _≤_};
-ghost use lib.ListN.{length};
 ghost use Rattle.std.specs.Options.{isSome};
 ghost use Rattle.std.specs.declared.option.Option.the-variants.{Some};
 ghost use Rattle.listing.specs.Listings.{countsOf};
-ghost use Rattle.listing.specs.Faults.{fits, openingFaults, faultsAt, firstThat, answered};
+ghost use Rattle.listing.specs.Faults.{fits, openingFaults, Inside, faultsAt, firstThat, answered};
 ghost use Rattle.listing.specs.Checks.{Checked};
 use crate::counts::Counts;
+use crate::counts::FEWEST_WORDS;
+use crate::counts::MOST_WORDS;
 use crate::fault::Fault;
 use crate::word::Word;
 use refusal::Place;
@@ -16,7 +16,7 @@ use refusal::Place;
 fn check_opening(words: &[u32]) -> Result<Counts, Fault>
     ensures { λ r. ⌜ r ≡ answered (countsOf (now (words .entry))) (firstThat (fits (now (words .entry))) openingFaults) ⌝ }
 {
-    if words.len() < 3 || words.len() > 1218 {
+    if words.len() < FEWEST_WORDS || words.len() > MOST_WORDS {
         return Err(Fault::WordCount);
     }
     let opening = Word(words[0]);
@@ -32,10 +32,7 @@ fn check_opening(words: &[u32]) -> Result<Counts, Fault>
 
 // Whether the word at a place after the first is what it has to be there.
 fn is_sound(words: &[u32], counts: Counts, place: usize) -> bool
-    requires counted { ⌜ counts ≡ countsOf (now words) ⌝ }
-    requires whole { ⌜ length (now words) ≡ counts .blocks + counts .wires + 2 ⌝ }
-    requires after { ⌜ 0 < place ⌝ }
-    requires within { ⌜ place < length (now words) ⌝ }
+    requires inside { ⌜ Inside (now words) counts place ⌝ }
     ensures { λ r. ⌜ r ≡ not (isSome (firstThat (fits (now (words .entry))) (faultsAt place))) ⌝ }
 {
     let word = Word(words[place]);
@@ -52,10 +49,7 @@ fn is_sound(words: &[u32], counts: Counts, place: usize) -> bool
 
 // The fault of a word that is not what it has to be: the one with the lowest number.
 fn fault_of(words: &[u32], counts: Counts, place: usize) -> Fault
-    requires counted { ⌜ counts ≡ countsOf (now words) ⌝ }
-    requires whole { ⌜ length (now words) ≡ counts .blocks + counts .wires + 2 ⌝ }
-    requires after { ⌜ 0 < place ⌝ }
-    requires within { ⌜ place < length (now words) ⌝ }
+    requires inside { ⌜ Inside (now words) counts place ⌝ }
     requires faulty { ⌜ isSome (firstThat (fits (now words)) (faultsAt place)) ≡ true ⌝ }
     ensures { λ r. ⌜ firstThat (fits (now (words .entry))) (faultsAt place) ≡ Some r ⌝ }
 {

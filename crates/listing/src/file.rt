@@ -2,7 +2,9 @@ ghost use mathlib.Core.Path.{_≡_};
 ghost use Prim.Native.Nat.{_+_, _*_, _<_, _≤_};
 ghost use lib.ListN.{length};
 ghost use Rattle.std.specs.Vec.{made};
-ghost use Rattle.listing.specs.Files.{wordAt, readAnswer, readLeft};
+ghost use Rattle.listing.specs.Files.{wordAt, readAnswer, readLeft, fileVerdict};
+use crate::check::check;
+use crate::counts::Counts;
 use crate::fault::Fault;
 use refusal::Place;
 
@@ -42,4 +44,13 @@ pub fn read_words(bytes: &[u8], memory: &mut [u32; FILE_WORDS]) -> Result<usize,
         memory[i] = word_at(bytes, i);
     }
     Ok(words)
+}
+
+/// Whether a file's bytes hold a listing: its two counts, or its first fault. Its words are then in the memory.
+pub fn check_file(bytes: &[u8], memory: &mut [u32; FILE_WORDS]) -> Result<Counts, Fault>
+    ensures answer { λ r. ⌜ r ≡ fileVerdict (now (bytes .entry)) ⌝ }
+    ensures left { λ _. ⌜ now (memory .exit) ≡ readLeft (now (bytes .entry)) (now (memory .entry)) ⌝ }
+{
+    let words = read_words(bytes, memory)?;
+    check(&memory[0..words])
 }

@@ -1,13 +1,32 @@
 ghost use mathlib.Core.Path.{_≡_};
 ghost use Prim.Native.Nat.{_<_};
-ghost use Rattle.listing.specs.Words.{field, openingBlocks, openingWires, isOpening, isBlock, isWire, isClosing};
+ghost use lib.Dec.{eqb};
+ghost use Rattle.listing.specs.Words.{field, kind, kindNumber, openingBlocks, openingWires, isOpening, isBlock, isWire, isClosing};
 use crate::counts::Counts;
+use crate::counts::MOST_BLOCKS;
+use crate::counts::MOST_WIRES;
+
+/// What sort of word a word is, as its two highest bits say.
+#[derive(Clone, Copy)]
+pub enum Kind {
+    Opening = 0,
+    Block = 1,
+    Wire = 2,
+    Closing = 3,
+}
 
 /// One word of a listing.
 #[derive(Clone, Copy)]
 pub struct Word(pub u32);
 
 impl Word {
+    // Whether the word is of this kind.
+    fn is(self, sort: Kind) -> bool
+        ensures { λ r. ⌜ r ≡ eqb (kind (self .0)) (kindNumber sort) ⌝ }
+    {
+        self.0 >> 30 == sort as u32
+    }
+
     // The number that `width` bits hold, from bit `low` up.
     fn field(self, low: u32, width: u32) -> usize
         requires { ⌜ low < 32 ⌝ ∗ ⌜ width < 32 ⌝ }
@@ -31,21 +50,24 @@ impl Word {
         ensures { λ r. ⌜ r ≡ isOpening (self .0) ⌝ }
     {
         let counts = self.counts();
-        self.0 >> 30 == 0 && 1 <= counts.blocks && counts.blocks <= 192 && counts.wires <= 1024
+        self.is(Kind::Opening)
+            && 1 <= counts.blocks
+            && counts.blocks <= MOST_BLOCKS
+            && counts.wires <= MOST_WIRES
     }
 
     /// Whether the word is a block's.
     pub fn is_block(self) -> bool
         ensures { λ r. ⌜ r ≡ isBlock (self .0) ⌝ }
     {
-        self.0 >> 30 == 1 && self.field(24, 6) == 0 && self.field(0, 24) > 0
+        self.is(Kind::Block) && self.field(24, 6) == 0 && self.field(0, 24) > 0
     }
 
     /// Whether the word is that of a wire among so many blocks.
     pub fn is_wire(self, blocks: usize) -> bool
         ensures { λ r. ⌜ r ≡ isWire blocks (self .0) ⌝ }
     {
-        self.0 >> 30 == 2
+        self.is(Kind::Wire)
             && self.field(5, 9) == 0
             && self.field(22, 8) < blocks
             && self.field(14, 8) < blocks
@@ -55,6 +77,6 @@ impl Word {
     pub fn is_closing(self, before: usize) -> bool
         ensures { λ r. ⌜ r ≡ isClosing before (self .0) ⌝ }
     {
-        self.0 >> 30 == 3 && self.field(0, 30) == before
+        self.is(Kind::Closing) && self.field(0, 30) == before
     }
 }

@@ -8,12 +8,12 @@ use Rattle.std.specs.Options.{isSome}
 use Rattle.std.proofs.shelf.Results.{err-from-errBy}
 use Rattle.std.proofs.shelf.Tests.{not-true, not-false}
 use Rattle.std.specs.declared.result.Result.the-variants.{Ok, Err}
-use Rattle.listing.specs.Faults.{fits, openingFaults, faultsAt, firstThat, answered}
+use Rattle.listing.specs.Faults.{Inside, fits, openingFaults, faultsAt, firstThat, answered}
 use Rattle.listing.specs.Listings.{countsOf}
 use Rattle.listing.proofs.Verdicts.{firstFrom, firstFrom-end, firstFrom-next, firstFrom-found, answered-some, verdict-at-opening, verdict-after, Opened, opened}
 use Rattle.listing.proofs.Checked.{checked}
 use Rattle.listing.proofs.check.check.Needs as need
-use Rattle.listing.proofs.check.check.Needs.{In-Continue-counts}
+use Rattle.listing.proofs.check.check.Needs.{In-Continue-counts, Else-place-words}
 
 -- what the accepted opening tells of the words
 told : (c : In-Continue-counts) → Opened (c .args .words .now) (c .in-Continue-counts .counts)
@@ -43,14 +43,19 @@ places-again c =
     let sound : isSome (firstThat (fits ws) (faultsAt p)) ≡ false = not-true _ (sym (c .if-not-is-sound .ensures tt)) in
     (omega arith, omega arith, firstFrom-next ws p (omega arith) sound ∙ c .places .inv .2)
 
+-- the place of a turn is that of a word after the first
+inside : (c : Else-place-words) → Opened (c .args .words .now) (c .in-Continue-counts .counts)
+    → Inside (c .args .words .now) (c .in-Continue-counts .counts) (c .places .place)
+inside c o =
+    record { counted = o .counted; whole = o .whole; after = c .places .inv .0; within = omega arith }
+
+pub is-sound-requires : need.is-sound-requires
+is-sound-requires c κs = record { inside = inside (need.at·is-sound-requires c .Else-place-words) (told (need.at·is-sound-requires c .In-Continue-counts)) }
+
 pub fault-of-requires : need.fault-of-requires
 fault-of-requires c κs =
-    let o = told (need.at·fault-of-requires c .In-Continue-counts) in
     record {
-      counted = o .counted;
-      whole = o .whole;
-      after = c .places .inv .0;
-      within = omega arith;
+      inside = inside (need.at·fault-of-requires c .Else-place-words) (told (need.at·fault-of-requires c .In-Continue-counts));
       faulty = not-false _ (sym (c .if-not-is-sound .ensures tt));
     }
 

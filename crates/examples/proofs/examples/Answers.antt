@@ -1,0 +1,7 @@
+use mathlib.Core.Path.{refl}
+use Rattle.listing.specs.Faults.{verdict}
+use Rattle.examples.proofs.examples.Needs as need
+
+pub returns : need.returns
+unfolding verdict
+returns c = record { count = refl; hold = (refl, (refl, tt)) }

@@ -1,0 +1,4 @@
+// Tests that run the code: each refusal at its edges, and the lines.
+mod checks;
+mod files;
+mod texts;
