@@ -1,7 +1,6 @@
 pub mod Verdicts
 pub mod Accepts
 pub mod Refuses
-pub mod Sets
 pub mod Fields
 pub mod Rising
 pub mod Parts

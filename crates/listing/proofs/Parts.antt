@@ -8,9 +8,13 @@ use lib.ListN.{length, getD, take, drop}
 use Rattle.std.specs.shelf.Lists.{All}
 use Rattle.std.proofs.shelf.Lists.{length-take-le, length-drop, getD-take, getD-drop, length-map, getD-map}
 use Rattle.std.proofs.shelf.Elements.{all-from-getD}
-use Rattle.listing.specs.Words.{isWire, blockTags}
+use Rattle.std.specs.shelf.Maps.{nth}
+use Rattle.std.proofs.shelf.Maps.{nth-getD}
+use Rattle.std.specs.declared.option.Option.the-variants.{Some}
+use Rattle.sets.specs.Sets.{set}
+use Rattle.listing.specs.Words.{isWire}
 use Rattle.listing.specs.Listings.{Listing, word, countsOf, blockWords, wireWords}
-use Rattle.listing.specs.Graphs.{stated}
+use Rattle.listing.specs.Graphs.{tagSet}
 use Rattle.listing.proofs.Rising.{Rising, rising-from-places}
 
 -- a part of a list, place by place
@@ -36,13 +40,15 @@ module _ (ws : List ℕ) (l : Listing ws (countsOf ws)) where
   pub getD-wireWords : (e : ℕ) → e < n → getD (wireWords ws) e 0 ≡ word ws (1 + b + e)
   getD-wireWords e h = getD-part ws (1 + b) n e h
 
-  pub length-tags : length (map blockTags (blockWords ws)) ≡ b
-  length-tags = length-map (blockWords ws) blockTags ∙ length-blockWords
+  pub length-tags : length (map tagSet (blockWords ws)) ≡ b
+  length-tags = length-map (blockWords ws) tagSet ∙ length-blockWords
 
-  pub getD-tags : (v : ℕ) → v < b → getD (map blockTags (blockWords ws)) v 0 ≡ blockTags (word ws (1 + v))
-  getD-tags v h =
+  pub nth-tags : (v : ℕ) → v < b → nth (map tagSet (blockWords ws)) v ≡ Some (tagSet (word ws (1 + v)))
+  nth-tags v h =
       let m = length-blockWords in
-      getD-map blockTags (blockWords ws) v 0 0 (omega arith) ∙ ap blockTags (getD-part ws 1 b v h)
+      let n = length-tags in
+      nth-getD (map tagSet (blockWords ws)) v (set 0) (omega arith)
+      ∙ ap Some (getD-map tagSet (blockWords ws) v 0 (set 0) (omega arith) ∙ ap tagSet (getD-part ws 1 b v h))
 
   pub all-wires : All (λ w. isWire b w ≡ true) (wireWords ws)
   all-wires =

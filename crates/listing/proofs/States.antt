@@ -12,12 +12,12 @@ use Rattle.std.proofs.shelf.Bits.{mod-below}
 use Rattle.listing.specs.declared.counts.Counts.{Counts}
 use Rattle.listing.specs.Words.{wireFrom, wireTo, wireType}
 use Rattle.listing.specs.Listings.{Listing, word, countsOf, wireWords}
-use Rattle.listing.specs.Sets.{has, setOf}
+use Rattle.sets.specs.Sets.{has, setOf, Member}
 use Rattle.listing.specs.Graphs.{runs, wired, stated}
 use Rattle.listing.specs.Checks.{wireWord, Laid, States}
-use Rattle.listing.proofs.Sets.{has-setOf, has-setOf-past}
+use Rattle.sets.proofs.Membership.{has-setOf, has-setOf-past}
 use Rattle.listing.proofs.Rising.{In, any-in, in-any, in-getD, getD-in}
-use Rattle.listing.proofs.Parts.{length-wireWords, getD-wireWords, length-tags, getD-tags}
+use Rattle.listing.proofs.Parts.{length-wireWords, getD-wireWords, length-tags, nth-tags}
 
 -- what a wire word tells of the wire that it lays
 pub record RunsSo (u v k w : ℕ) : Type 0 where
@@ -45,7 +45,7 @@ wired-has ws u v k w i r =
     has-setOf (wired ws u v) k small ∙ in-any (runs u v k) (wireWords ws) w i r
 
 module _ (ws : List ℕ) (l : Listing ws (countsOf ws)) where
-  laid-from : (u v k : ℕ) → has k (stated ws .types u v) ≡ true → Laid ws (countsOf ws) u v k
+  laid-from : (u v k : ℕ) → Member k (stated ws .pairs u v) → Laid ws (countsOf ws) u v k
   unfolding stated
   laid-from u v k e =
       let found = any-in (runs u v k) (wireWords ws) (has-wired ws u v k e) in
@@ -56,7 +56,7 @@ module _ (ws : List ℕ) (l : Listing ws (countsOf ws)) where
       let so = runs-so u v k (found .0) (found .2) in
       (there .0, inside, ap wireFrom is ∙ so .from, ap wireTo is ∙ so .to, ap wireType is ∙ so .type)
 
-  laid-has : (u v k : ℕ) → Laid ws (countsOf ws) u v k → has k (stated ws .types u v) ≡ true
+  laid-has : (u v k : ℕ) → Laid ws (countsOf ws) u v k → Member k (stated ws .pairs u v)
   unfolding stated
   laid-has u v k (e, h, f, t, s) =
       let long = length-wireWords ws l in
@@ -70,7 +70,7 @@ module _ (ws : List ℕ) (l : Listing ws (countsOf ws)) where
   states-own =
       record {
         blocks = length-tags ws l;
-        tags = getD-tags ws l;
+        tags = nth-tags ws l;
         types = λ u v k. (laid-from u v k, laid-has u v k);
       }
 

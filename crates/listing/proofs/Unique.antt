@@ -11,20 +11,26 @@ use Rattle.std.proofs.shelf.Tests.{cases-lt, cases-eq}
 use Rattle.listing.specs.declared.counts.Counts.{Counts}
 use Rattle.listing.specs.Words.{openingBlocks, openingWires, blockTags, wireFrom, wireTo, wireType, isWire}
 use Rattle.listing.specs.Listings.{Listing, word, countsOf, wireWords, blockWords}
-use Rattle.listing.specs.Sets.{has, setOf}
-use Rattle.listing.specs.Graphs.{Graph, runs, wired, stated, SameGraph}
+use Rattle.sets.specs.Sets.{has, set, setOf}
+use Rattle.sets.specs.declared.Set.{Set}
+use Rattle.std.specs.shelf.Maps.{nth}
+use Rattle.std.specs.declared.option.Option.the-variants.{Some}
+use Rattle.listing.specs.Graphs.{runs, wired, tagSet, typeSet, stated, SameGraph}
 use Rattle.listing.specs.Checks.{OnlyListing}
 use Rattle.listing.proofs.Fields.{opening-is, block-is, wire-is, wire-ends, closing-is}
 use Rattle.listing.proofs.Rising.{In, any-in, in-all, same-rising}
-use Rattle.listing.proofs.Parts.{length-wireWords, getD-wireWords, length-tags, getD-tags, all-wires, rising-wires}
+use Rattle.listing.proofs.Parts.{length-wireWords, getD-wireWords, length-tags, nth-tags, all-wires, rising-wires}
 use Rattle.listing.proofs.States.{runs-so, so-runs, has-wired, wired-has}
+
+some-same : {x y : Set} → Some x ≡ Some y → x ≡ y
+some-same e = cc
 
 -- the same counts, tags and types as the words of two listings say them
 record Alike (ws vs : List ℕ) : Type 0 where
   left : Listing ws (countsOf ws)
   right : Listing vs (countsOf vs)
-  tags : map blockTags (blockWords ws) ≡ map blockTags (blockWords vs)
-  types : (u v : ℕ) → u < countsOf ws .blocks → v < countsOf ws .blocks → setOf (wired ws u v) ≡ setOf (wired vs u v)
+  tags : map tagSet (blockWords ws) ≡ map tagSet (blockWords vs)
+  types : (u v : ℕ) → u < countsOf ws .blocks → v < countsOf ws .blocks → typeSet ws u v ≡ typeSet vs u v
 
 same-blocks : (ws vs : List ℕ) → Alike ws vs → countsOf ws .blocks ≡ countsOf vs .blocks
 same-blocks ws vs a = sym (length-tags ws (a .left)) ∙ ap length (a .tags) ∙ length-tags vs (a .right)
@@ -49,7 +55,7 @@ wire-across ws vs a w i =
     let v : ℕ = wireTo w in
     let k : ℕ = wireType w in
     let member = wired-has ws u v k w i (so-runs u v k w refl refl refl) in
-    let moved = ap (has k) (sym (a .types u v (ends .0) (ends .1))) ∙ member in
+    let moved = ap (λ s. has k (s .0)) (sym (a .types u v (ends .0) (ends .1))) ∙ member in
     let found = any-in (runs u v k) (wireWords vs) (has-wired vs u v k moved) in
     let so = runs-so u v k (found .0) (found .2) in
     let good′ = in-all (λ x. isWire (countsOf vs .blocks) x ≡ true) (wireWords vs) (found .0) (all-wires vs (a .right)) (found .1) in
@@ -92,8 +98,9 @@ module _ (ws vs : List ℕ) (a : Alike ws vs) where
       let eb = same-b in
       let one = block-is (word ws (1 + v)) (a .left .block v h) in
       let two = block-is (word vs (1 + v)) (a .right .block v (omega arith)) in
-      let tags : blockTags (word ws (1 + v)) ≡ blockTags (word vs (1 + v)) =
-      sym (getD-tags ws (a .left) v h) ∙ ap (λ l. getD l v 0) (a .tags) ∙ getD-tags vs (a .right) v (omega arith) in
+      let labels : Some (tagSet (word ws (1 + v))) ≡ Some (tagSet (word vs (1 + v))) =
+      sym (nth-tags ws (a .left) v h) ∙ ap (λ l. nth l v) (a .tags) ∙ nth-tags vs (a .right) v (omega arith) in
+      let tags : blockTags (word ws (1 + v)) ≡ blockTags (word vs (1 + v)) = ap (λ (s : Set). s .0) (some-same labels) in
       one ∙ ap (λ t. 1073741824 + t) tags ∙ sym two
 
   same-wire : (e : ℕ) → e < n → word ws (1 + b + e) ≡ word vs (1 + b + e)

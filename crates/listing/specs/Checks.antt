@@ -9,19 +9,19 @@
 --   Checked ws r       all that the check promises of its answer r to the words ws
 use Prim.Native.Nat.{ℕ, _+_, _<_}
 use mathlib.Core.Path.{_≡_}
-use mathlib.Core.Bool.{true}
 use mathlib.Core.List.{List}
-use lib.ListN.{length, getD}
 use Rattle.std.specs.Vec.{made}
+use Rattle.std.specs.declared.option.Option.the-variants.{Some}
 use Rattle.std.specs.declared.result.Result.{Result}
 use Rattle.std.specs.declared.result.Result.the-variants.{Ok, Err}
 use Rattle.listing.specs.declared.counts.Counts.{Counts}
 use Rattle.listing.specs.declared.fault.Fault.{Fault}
-use Rattle.listing.specs.Words.{wireFrom, wireTo, wireType, blockTags}
+use Rattle.listing.specs.Words.{wireFrom, wireTo, wireType}
 use Rattle.listing.specs.Listings.{Listing, word}
 use Rattle.listing.specs.Faults.{FirstFault, verdict}
-use Rattle.listing.specs.Sets.{has}
-use Rattle.listing.specs.Graphs.{stated, SameGraph}
+use Rattle.model.specs.Graphs.{blockCount, labelAt}
+use Rattle.sets.specs.Sets.{Member}
+use Rattle.listing.specs.Graphs.{stated, tagSet, SameGraph}
 
 abbrev pub Accepts : List ℕ → Result Counts Fault → Type 0
 Accepts ws r = (c : Counts) → (r ≡ Ok c → Listing ws c) × (Listing ws c → r ≡ Ok c)
@@ -39,10 +39,10 @@ Laid ws c u v k =
     × (wireType (wireWord ws c e) ≡ k)
 
 pub record States (ws : List ℕ) (c : Counts) : Type 0 where
-  pub blocks : length (stated ws .tags) ≡ c .blocks
-  pub tags : (v : ℕ) → v < c .blocks → getD (stated ws .tags) v 0 ≡ blockTags (word ws (1 + v))
+  pub blocks : blockCount (stated ws) ≡ c .blocks
+  pub tags : (v : ℕ) → v < c .blocks → labelAt (stated ws) v ≡ Some (tagSet (word ws (1 + v)))
   pub types : (u v k : ℕ)
-      → (has k (stated ws .types u v) ≡ true → Laid ws c u v k) × (Laid ws c u v k → has k (stated ws .types u v) ≡ true)
+      → (Member k (stated ws .pairs u v) → Laid ws c u v k) × (Laid ws c u v k → Member k (stated ws .pairs u v))
 
 abbrev pub OnlyListing : List ℕ → Type 0
 OnlyListing ws = (vs : List ℕ) (d : Counts) → Listing vs d → SameGraph (stated ws) (stated vs) → vs ≡ ws

@@ -1,7 +1,6 @@
 pub mod Words
 pub mod Listings
 pub mod Faults
-pub mod Sets
 pub mod Graphs
 pub mod Files
 pub mod Checks
