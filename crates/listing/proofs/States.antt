@@ -13,7 +13,7 @@ use Rattle.listing.specs.declared.counts.Counts.{Counts}
 use Rattle.listing.specs.Words.{wireFrom, wireTo, wireType}
 use Rattle.listing.specs.Listings.{Listing, word, countsOf, wireWords}
 use Rattle.sets.specs.Sets.{has, setOf, Member}
-use Rattle.listing.specs.Graphs.{runs, wired, stated}
+use Rattle.listing.specs.Graphs.{runs, wired, typeSet, stated}
 use Rattle.listing.specs.Checks.{wireWord, Laid, States}
 use Rattle.sets.proofs.Membership.{has-setOf, has-setOf-past}
 use Rattle.listing.proofs.Rising.{In, any-in, in-any, in-getD, getD-in}
@@ -39,16 +39,20 @@ pub has-wired : (ws : List ℕ) (u v k : ℕ) → has k (setOf (wired ws u v)) �
 has-wired ws u v k e =
     ⊎-elim (λ h. sym (has-setOf (wired ws u v) k h) ∙ e) (λ h. absurd (both-ways _ (has-setOf-past (wired ws u v) k h) e)) (cases-lt k 32)
 
-pub wired-has : (ws : List ℕ) (u v k w : ℕ) → In w (wireWords ws) → runs u v k w ≡ true → has k (setOf (wired ws u v)) ≡ true
-wired-has ws u v k w i r =
-    let small : k < 32 = let s = runs-so u v k w r .type in let m = mod-below w 32 (omega arith) in omega arith in
-    has-setOf (wired ws u v) k small ∙ in-any (runs u v k) (wireWords ws) w i r
+-- a type has five bits
+type-small : (u v k w : ℕ) → runs u v k w ≡ true → k < 32
+type-small u v k w r = let s = runs-so u v k w r .type in let m = mod-below w 32 (omega arith) in omega arith
+
+pub wired-member : (ws : List ℕ) (u v k w : ℕ) → In w (wireWords ws) → runs u v k w ≡ true → Member k (typeSet ws u v)
+wired-member ws u v k w i r =
+    let small = type-small u v k w r in
+    (small, has-setOf (wired ws u v) k small ∙ in-any (runs u v k) (wireWords ws) w i r)
 
 module _ (ws : List ℕ) (l : Listing ws (countsOf ws)) where
   laid-from : (u v k : ℕ) → Member k (stated ws .pairs u v) → Laid ws (countsOf ws) u v k
   unfolding stated
   laid-from u v k e =
-      let found = any-in (runs u v k) (wireWords ws) (has-wired ws u v k e) in
+      let found = any-in (runs u v k) (wireWords ws) (has-wired ws u v k (e .1)) in
       let there = in-getD (wireWords ws) (found .0) (found .1) in
       let long = length-wireWords ws l in
       let inside : there .0 < countsOf ws .wires = let h = there .1 in omega arith in
@@ -63,7 +67,7 @@ module _ (ws : List ℕ) (l : Listing ws (countsOf ws)) where
       let is = getD-wireWords ws l e h in
       let here : In (wireWord ws (countsOf ws) e) (wireWords ws) =
       subst (λ w. In w (wireWords ws)) is (getD-in (wireWords ws) e (omega arith)) in
-      wired-has ws u v k (wireWord ws (countsOf ws) e) here (so-runs u v k (wireWord ws (countsOf ws) e) f t s)
+      wired-member ws u v k (wireWord ws (countsOf ws) e) here (so-runs u v k (wireWord ws (countsOf ws) e) f t s)
 
   states-own : States ws (countsOf ws)
   unfolding stated

@@ -20,7 +20,7 @@ use Rattle.listing.specs.Checks.{OnlyListing}
 use Rattle.listing.proofs.Fields.{opening-is, block-is, wire-is, wire-ends, closing-is}
 use Rattle.listing.proofs.Rising.{In, any-in, in-all, same-rising}
 use Rattle.listing.proofs.Parts.{length-wireWords, getD-wireWords, length-tags, nth-tags, all-wires, rising-wires}
-use Rattle.listing.proofs.States.{runs-so, so-runs, has-wired, wired-has}
+use Rattle.listing.proofs.States.{runs-so, so-runs, has-wired, wired-member}
 
 some-same : {x y : Set} → Some x ≡ Some y → x ≡ y
 some-same e = cc
@@ -54,7 +54,7 @@ wire-across ws vs a w i =
     let u : ℕ = wireFrom w in
     let v : ℕ = wireTo w in
     let k : ℕ = wireType w in
-    let member = wired-has ws u v k w i (so-runs u v k w refl refl refl) in
+    let member = wired-member ws u v k w i (so-runs u v k w refl refl refl) .1 in
     let moved = ap (λ s. has k (s .0)) (sym (a .types u v (ends .0) (ends .1))) ∙ member in
     let found = any-in (runs u v k) (wireWords vs) (has-wired vs u v k moved) in
     let so = runs-so u v k (found .0) (found .2) in

@@ -1,5 +1,6 @@
 -- The graph that a listing states: a labelled multigraph of blocks and wires.
 --
+--   leads u v w       the wire word w lays a wire from u to v
 --   runs u v k w      the wire word w lays a wire of type k from u to v
 --   wired ws u v k    one of the wire words lays such a wire
 --   stated ws         the graph that the words state: each block is labelled with its tag set, and each ordered pair of
@@ -18,6 +19,9 @@ use Rattle.listing.specs.Listings.{blockWords, wireWords}
 use Rattle.model.specs.Graphs.{Graph, blockCount}
 use Rattle.sets.specs.Sets.{set, setOf}
 use Rattle.sets.specs.declared.Set.{Set}
+
+abbrev pub leads : ℕ → ℕ → ℕ → Bool
+leads u v w = eqb (wireFrom w) u && eqb (wireTo w) v
 
 abbrev pub runs : ℕ → ℕ → ℕ → ℕ → Bool
 runs u v k w = eqb (wireFrom w) u && (eqb (wireTo w) v && eqb (wireType w) k)

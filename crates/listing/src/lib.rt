@@ -3,4 +3,4 @@ pub mod check;
 pub mod counts;
 pub mod fault;
 pub mod file;
-mod word;
+pub mod word;

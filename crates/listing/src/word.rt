@@ -1,10 +1,12 @@
 ghost use mathlib.Core.Path.{_≡_};
 ghost use Prim.Native.Nat.{_<_};
 ghost use lib.Dec.{eqb};
-ghost use Rattle.listing.specs.Words.{field, kind, kindNumber, openingBlocks, openingWires, isOpening, isBlock, isWire, isClosing};
+ghost use Rattle.listing.specs.Words.{field, kind, kindNumber, openingBlocks, openingWires, wireFrom, wireTo, wireType, isOpening, isBlock, isWire, isClosing};
+ghost use Rattle.listing.specs.Graphs.{leads, tagSet};
 use crate::counts::Counts;
 use crate::counts::MOST_BLOCKS;
 use crate::counts::MOST_WIRES;
+use sets::Set;
 
 /// What sort of word a word is, as its two highest bits say.
 #[derive(Clone, Copy)]
@@ -56,6 +58,41 @@ impl Word {
             && counts.wires <= MOST_WIRES
     }
 
+    /// The tags that a block word gives.
+    pub fn tags(self) -> Set
+        ensures { λ r. ⌜ r ≡ tagSet (self .0) ⌝ }
+    {
+        Set(self.0 & 0x00FF_FFFF)
+    }
+
+    /// The block that a wire word lays a wire from.
+    pub fn from(self) -> usize
+        ensures { λ r. ⌜ r ≡ wireFrom (self .0) ⌝ }
+    {
+        self.field(22, 8)
+    }
+
+    /// The block that a wire word lays a wire to.
+    pub fn to(self) -> usize
+        ensures { λ r. ⌜ r ≡ wireTo (self .0) ⌝ }
+    {
+        self.field(14, 8)
+    }
+
+    /// The type of the wire that a wire word lays.
+    pub fn wire_type(self) -> usize
+        ensures { λ r. ⌜ r ≡ wireType (self .0) ⌝ }
+    {
+        self.field(0, 5)
+    }
+
+    /// Whether a wire word lays a wire from one block to another.
+    pub fn leads(self, from: usize, to: usize) -> bool
+        ensures { λ r. ⌜ r ≡ leads from to (self .0) ⌝ }
+    {
+        self.from() == from && self.to() == to
+    }
+
     /// Whether the word is a block's.
     pub fn is_block(self) -> bool
         ensures { λ r. ⌜ r ≡ isBlock (self .0) ⌝ }
@@ -69,8 +106,8 @@ impl Word {
     {
         self.is(Kind::Wire)
             && self.field(5, 9) == 0
-            && self.field(22, 8) < blocks
-            && self.field(14, 8) < blocks
+            && self.from() < blocks
+            && self.to() < blocks
     }
 
     /// Whether the word closes a listing after so many words.

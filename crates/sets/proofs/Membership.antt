@@ -11,9 +11,10 @@ use lib.Dec.{eqb}
 use mathlib.Core.Logic.{⊎-elim}
 use Rattle.std.specs.Orderings.{Decides}
 use Rattle.std.proofs.shelf.Bits.{shr-shr}
-use Rattle.std.proofs.shelf.Tests.{ne-eqb, eq-eqb, eqb-true, and-parts, cases-lt}
-use Rattle.std.proofs.shelf.Ways.{tells}
-use Rattle.sets.specs.Sets.{has, setFrom, setOf}
+use Rattle.std.proofs.shelf.Tests.{ne-eqb, eq-eqb, eqb-true, and-parts, cases-lt, both-ways}
+use Rattle.std.proofs.shelf.Ways.{tells, decides-below-and, decides-like, same-from-decides}
+use Rattle.sets.specs.Sets.{has, setFrom, setOf, Member, everyBelow, implies, agree, isSubset, sameSet}
+use Rattle.sets.specs.declared.Set.{Set}
 
 -- the digits of a number whose lowest is b
 has-zero : (b x : ℕ) → b < 2 → has 0 (b + 2 * x) ≡ eqb b 1
@@ -24,7 +25,7 @@ has-suc k b x h =
     let half : (b + 2 * x) / 2 ≡ x = omega arith in
     ap (λ n. eqb (n % 2) 1) (ap (λ j. (b + 2 * x) / 2 ^ j) (sym (one-add k)) ∙ sym (shr-shr (b + 2 * x) 1 k) ∙ ap (λ n. n / 2 ^ k) half)
 
-has-nothing : (k : ℕ) → has k 0 ≡ false
+pub has-nothing : (k : ℕ) → has k 0 ≡ false
 has-nothing k = ap (λ n. eqb (n % 2) 1) (zero-div (2 ^ k))
 
 digit-lt : (b : Bool) → cond b 1 0 < 2
@@ -142,15 +143,66 @@ word-is w t small e =
     same-from-members 32 w (setOf t) small (setOf-lt t)
     (λ k. ⊎-elim (λ h. e k h ∙ sym (has-setOf t k h)) (λ h. has-past w k small h ∙ sym (has-setOf-past t k h)) (cases-lt k 32))
 
-pub within-word : (a b : ℕ) → a < 2 ^ 32 → b < 2 ^ 32 → Decides (eqb (bitAnd a b) a) ((k : ℕ) → has k a ≡ true → has k b ≡ true)
-within-word a b ha hb = (
-  λ e k h. and-parts (has k a) (has k b) (sym (has-and k a b) ∙ ap (has k) (eqb-true (bitAnd a b) a e) ∙ h) .1,
-  λ all. eq-eqb (bitAnd a b) a (same-from-members 32 (bitAnd a b) a (and-lt 32 a b ha hb) ha (λ k. has-and k a b ∙ kept (has k a) (has k b) (all k))),
-)
+-- ---- tests over all members
+-- tests that imply one another are one
+pub one-test : (a b : Bool) → (a ≡ true → b ≡ true) → (b ≡ true → a ≡ true) → a ≡ b
+one-test true b f g = sym (f refl)
+one-test false true f g = g refl
+one-test false false f g = refl
+
+pub decides-every : (t : ℕ → Bool) (P : ℕ → Type 0) → ((k : ℕ) → Decides (t k) (P k)) → (n : ℕ) → Decides (everyBelow n t) ((k : ℕ) → k < n → P k)
+decides-every t P each n = decides-below-and t P (λ m. everyBelow m t) each refl (λ m. refl) n
+
+decides-implies : (a b : Bool) → Decides (implies a b) (a ≡ true → b ≡ true)
+decides-implies true b = ((λ e h. e), λ h. h refl)
+decides-implies false b = ((λ e h. absurd (both-ways false refl h)), λ h. refl)
+
+decides-agree : (a b : Bool) → Decides (agree a b) (a ≡ b)
+decides-agree true true = ((λ e. refl), λ e. refl)
+decides-agree true false = ((λ e. sym e), λ e. sym e)
+decides-agree false true = ((λ e. e), λ e. e)
+decides-agree false false = ((λ e. refl), λ e. refl)
+
+-- every member of s is a member of t
+pub decides-subset : (s t : Set) → Decides (isSubset s t) ((k : ℕ) → Member k s → Member k t)
+unfolding isSubset
+decides-subset s t =
+    decides-like (everyBelow 32 (λ k. implies (has k (s .0)) (has k (t .0)))) (λ h k m. (m .0, h k (m .0) (m .1))) (λ h k l m. h k (l, m) .1)
+    (decides-every (λ k. implies (has k (s .0)) (has k (t .0))) (λ k. has k (s .0) ≡ true → has k (t .0) ≡ true) (λ k. decides-implies (has k (s .0)) (has k (t .0))) 32)
+
+-- s and t have the same members
+pub decides-same : (s t : Set) → Decides (sameSet s t) ((k : ℕ) → k < 32 → has k (s .0) ≡ has k (t .0))
+unfolding sameSet
+decides-same s t =
+    decides-every (λ k. agree (has k (s .0)) (has k (t .0))) (λ k. has k (s .0) ≡ has k (t .0)) (λ k. decides-agree (has k (s .0)) (has k (t .0))) 32
+
+-- the test of two words
+pub subset-word : (s t : Set) → s .0 < 2 ^ 32 → t .0 < 2 ^ 32 → eqb (bitAnd (s .0) (t .0)) (s .0) ≡ isSubset s t
+subset-word s t hs ht = same-from-decides _ _ words (decides-subset s t)
   where
     kept : (x y : Bool) → (x ≡ true → y ≡ true) → (x && y) ≡ x
     kept true y h = h refl
     kept false y h = refl
+
+    -- at each number of a word, below 32 or not
+    at : ((k : ℕ) → Member k s → Member k t) → (k : ℕ) → has k (s .0) ≡ true → has k (t .0) ≡ true
+    at all k m = ⊎-elim (λ h. all k (h, m) .1) (λ h. absurd (both-ways (has k (s .0)) (has-past (s .0) k hs h) m)) (cases-lt k 32)
+
+    words : Decides (eqb (bitAnd (s .0) (t .0)) (s .0)) ((k : ℕ) → Member k s → Member k t)
+    words = (
+      λ e k m. (m .0, and-parts (has k (s .0)) (has k (t .0)) (sym (has-and k (s .0) (t .0)) ∙ ap (has k) (eqb-true (bitAnd (s .0) (t .0)) (s .0) e) ∙ m .1) .1),
+      λ all. eq-eqb (bitAnd (s .0) (t .0)) (s .0) (same-from-members 32 (bitAnd (s .0) (t .0)) (s .0) (and-lt 32 (s .0) (t .0) hs ht) hs (λ k. has-and k (s .0) (t .0) ∙ kept (has k (s .0)) (has k (t .0)) (at all k))),
+    )
+
+pub same-word : (s t : Set) → s .0 < 2 ^ 32 → t .0 < 2 ^ 32 → eqb (s .0) (t .0) ≡ sameSet s t
+same-word s t hs ht = same-from-decides _ _ words (decides-same s t)
+  where
+    words : Decides (eqb (s .0) (t .0)) ((k : ℕ) → k < 32 → has k (s .0) ≡ has k (t .0))
+    words = (
+      λ e k h. ap (has k) (eqb-true (s .0) (t .0) e),
+      λ all. eq-eqb (s .0) (t .0) (same-from-members 32 (s .0) (t .0) hs ht
+        (λ k. ⊎-elim (all k) (λ h. has-past (s .0) k hs h ∙ sym (has-past (t .0) k ht h)) (cases-lt k 32))),
+    )
 
 pub or-nothing : (x y : Bool) → y ≡ false → (x || y) ≡ x
 or-nothing true y e = refl

@@ -4,12 +4,13 @@
 --   setOf t        the word of the set of the numbers below 32 that pass the test t
 --   set w          the set that the word w holds
 --   Member k s     the number k is in the set s
---   Within s t     every member of s is a member of t
+--   everyBelow n t the test t passes at every number below n
+--   isSubset s t   every member of s is a member of t
+--   sameSet s t    s and t have the same members
 --   joined s t     the members of s and those of t
 --   added k s      the members of s and, where it is below 32, the number k
-use Prim.Native.Nat.{ℕ, zero, suc, _+_, _*_, _/_, _%_, _^_}
-use mathlib.Core.Bool.{Bool, cond, _||_}
-use mathlib.Core.Bool.{true}
+use Prim.Native.Nat.{ℕ, zero, suc, _+_, _*_, _/_, _%_, _^_, _<_}
+use mathlib.Core.Bool.{Bool, true, not, cond, _&&_, _||_}
 use mathlib.Core.Path.{_≡_}
 use lib.Dec.{eqb}
 use Rattle.sets.specs.declared.Set.{Set}
@@ -29,10 +30,23 @@ abbrev pub set : ℕ → Set
 set w = record { 0 = w }
 
 abbrev pub Member : ℕ → Set → Type 0
-Member k s = has k (s .0) ≡ true
+Member k s = (k < 32) × (has k (s .0) ≡ true)
 
-abbrev pub Within : Set → Set → Type 0
-Within s t = (k : ℕ) → Member k s → Member k t
+abbrev pub everyBelow : ℕ → (ℕ → Bool) → Bool
+everyBelow zero t = true
+everyBelow (suc n) t = t n && everyBelow n t
+
+abbrev pub implies : Bool → Bool → Bool
+implies a b = not a || b
+
+abbrev pub agree : Bool → Bool → Bool
+agree a b = implies a b && implies b a
+
+unfoldable pub isSubset : Set → Set → Bool
+isSubset s t = everyBelow 32 (λ k. implies (has k (s .0)) (has k (t .0)))
+
+unfoldable pub sameSet : Set → Set → Bool
+sameSet s t = everyBelow 32 (λ k. agree (has k (s .0)) (has k (t .0)))
 
 abbrev pub joined : Set → Set → Set
 joined s t = set (setOf (λ k. has k (s .0) || has k (t .0)))

@@ -1,7 +1,8 @@
 // Sets of numbers below 32, each held in one word.
 ghost use mathlib.Core.Path.{_≡_};
+ghost use Prim.Native.Nat.{ℕ};
 ghost use Rattle.std.specs.Orderings.{Decides};
-ghost use Rattle.sets.specs.Sets.{has, Within, joined, added};
+ghost use Rattle.sets.specs.Sets.{has, Member, isSubset, sameSet, joined, added};
 
 /// A set of numbers below 32: number k is in it when bit k of the word is 1.
 #[derive(Clone, Copy, PartialEq, Eq, Debug)]
@@ -37,9 +38,18 @@ impl Set {
     }
 
     /// Whether every member of the set is a member of another.
-    pub fn is_within(self, other: Set) -> bool
-        ensures { λ r. ⌜ Decides r (Within self other) ⌝ }
+    pub fn is_subset(self, other: Set) -> bool
+        ensures test { λ r. ⌜ r ≡ isSubset self other ⌝ }
+        ensures members { λ r. ⌜ Decides r ((k : ℕ) → Member k self → Member k other) ⌝ }
     {
         self.0 & other.0 == self.0
+    }
+
+    /// Whether the set has the same members as another.
+    pub fn is_same(self, other: Set) -> bool
+        ensures test { λ r. ⌜ r ≡ sameSet self other ⌝ }
+        ensures equal { λ r. ⌜ Decides r (self ≡ other) ⌝ }
+    {
+        self.0 == other.0
     }
 }

@@ -1,0 +1,2 @@
+pub mod RowStores
+pub mod ListingStores
