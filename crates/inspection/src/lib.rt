@@ -4,9 +4,12 @@ ghost use mathlib.Core.List.{_++_};
 ghost use Prim.Native.Nat.{_≤_};
 ghost use lib.ListN.{length, drop};
 ghost use Rattle.std.specs.Vec.{made};
+ghost use Rattle.lines.specs.GraphLines.{lineLength, lineOver, Short};
 ghost use Rattle.lines.specs.Lines.{lineAnswer, lineLeft};
-ghost use Rattle.inspection.specs.Printouts.{fileLine, printout, overwritten};
+ghost use Rattle.inspection.specs.Printouts.{fileLine, fileGraphLine, printout, overwritten};
 use lines::fault::LineFault;
+use lines::graph::GRAPH_LINE;
+use lines::graph::graph_line;
 use lines::role::Role;
 use lines::write::count_line;
 use lines::write::fault_line;
@@ -43,4 +46,18 @@ pub fn inspect(pattern: &[u8], program: &[u8], out: &mut [u8; PRINTOUT]) -> usiz
     let first = file_line(Role::Pattern, pattern, out).unwrap();
     let second = file_line(Role::Program, program, &mut out[first..PRINTOUT]).unwrap();
     first + second
+}
+
+/// Writes one line of the graph that a file with these bytes holds, and answers its length: the lines of the blocks come
+/// first, then those of the wires. Where there is no such line, or the file is refused, nothing is written.
+pub fn file_graph_line(bytes: &[u8], index: usize, out: &mut [u8; GRAPH_LINE]) -> Option<usize>
+    ensures answer { λ r. ⌜ r ≡ lineLength (fileGraphLine (now (bytes .entry)) index) ⌝ }
+    ensures left { λ _. ⌜ now (out .exit) ≡ lineOver (fileGraphLine (now (bytes .entry)) index) (now (out .entry)) ⌝ }
+    ensures within { λ r. ⌜ Short r ⌝ }
+{
+    let mut memory = [0; FILE_WORDS];
+    let Ok(counts) = check_file(bytes, &mut memory) else {
+        return None;
+    };
+    graph_line(&memory[0..counts.blocks + counts.wires + 2], index, out)
 }

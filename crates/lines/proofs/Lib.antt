@@ -1,2 +1,5 @@
 pub mod Line
+pub mod Pieces
+pub mod Places
+pub mod Tags
 pub mod Written

@@ -1,5 +1,5 @@
 -- How long the parts of a line are, and what a line written from the start leaves.
-use Prim.Native.Nat.{ℕ, _+_, _≤_, _<_, _^_, _/_}
+use Prim.Native.Nat.{ℕ, _+_, _≤_, _<_, _^_}
 use Rattle.lines.specs.Lines.{Wrote, lineAnswer, lineLeft, numberLine, roleWord, written}
 use Rattle.lines.specs.declared.role.Role.{Role}
 use Rattle.lines.specs.declared.role.Role.the-variants.{Pattern, Program}
@@ -26,9 +26,6 @@ length-of-word role word spells = ap length spells ∙ length-word role
 
 pub length-decimal-most : (n : ℕ) → n < 2 ^ 64 → length (decimal n) ≤ 20
 length-decimal-most n fits = length-decimal-le 20 n (omega arith) (omega arith) fits
-
-pub length-digits-before-last : (n : ℕ) → n < 2 ^ 64 → length (decimal (n / 10)) ≤ 19
-length-digits-before-last n fits = length-decimal-le 19 (n / 10) (omega arith) (omega arith) (omega arith)
 
 pub length-line-most : (role : Role) (first second : ℕ) (middle end : List ℕ) → first < 2 ^ 64 → second < 2 ^ 64 → length middle ≤ 8 → length end ≤ 7 → length (numberLine role first middle second end) ≤ 63
 unfolding numberLine

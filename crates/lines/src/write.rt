@@ -1,11 +1,12 @@
-ghost use Prim.Native.Nat.{_+_, _≤_};
-ghost use Rattle.lines.specs.Lines.{countLine, faultLine, lineAnswer, lineLeft, numberLine, Wrote};
+ghost use Prim.Native.Nat.{_≤_};
+ghost use Rattle.lines.specs.Lines.{countLine, faultLine, lineAnswer, lineLeft, numberLine};
 ghost use Rattle.std.specs.Vec.{made};
-ghost use Rattle.std.specs.Written.{decimal};
 ghost use lib.ListN.{length};
 ghost use mathlib.Core.Path.{_≡_};
 use crate::fault::LineFault;
 use crate::role::Role;
+use crate::text::put_decimal;
+use crate::text::put_text;
 use listing::counts::Counts;
 use refusal::Place;
 use refusal::RefusalNumber;
@@ -69,26 +70,4 @@ fn put_line(
     let middle_end = put_text(out, first_end, middle);
     let second_end = put_decimal(out, middle_end, second);
     Ok(put_text(out, second_end, end))
-}
-
-/// Writes `n` in decimal digits at `at`, and answers the place after them.
-fn put_decimal(out: &mut [u8], at: usize, n: usize) -> usize
-    requires { ⌜ at + 20 ≤ length (now out) ⌝ }
-    ensures { λ r. ⌜ Wrote (now (out .entry)) at (decimal n) (now (out .exit)) r ⌝ }
-{
-    if n < 10 {
-        return put_text(out, at, &[b'0' + n as u8]);
-    }
-    let front_end = put_decimal(out, at, n / 10);
-    put_text(out, front_end, &[b'0' + (n % 10) as u8])
-}
-
-/// Writes `text` at `at`, and answers the place after it.
-fn put_text(out: &mut [u8], at: usize, text: &[u8]) -> usize
-    requires { ⌜ at + length (now text) ≤ length (now out) ⌝ }
-    ensures { λ r. ⌜ Wrote (now (out .entry)) at (now (text .entry)) (now (out .exit)) r ⌝ }
-{
-    let end = at + text.len();
-    out[at..end].copy_from_slice(text);
-    end
 }

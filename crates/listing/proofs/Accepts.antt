@@ -109,7 +109,7 @@ module _ (ws : List ℕ) (listing : Listing ws (countsOf ws)) where
   wires′ = countsOf ws .wires
 
   -- the counts of an opening word are in range
-  ranges : (1 ≤ blocks′) × (blocks′ ≤ 192) × (wires′ ≤ 1024)
+  pub ranges : (1 ≤ blocks′) × (blocks′ ≤ 192) × (wires′ ≤ 1024)
   ranges =
       let o = and-parts _ _ (and-parts _ _ (listing .opening) .1) in
       let q = and-parts _ _ (o .1) in

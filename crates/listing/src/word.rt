@@ -104,10 +104,7 @@ impl Word {
     pub fn is_wire(self, blocks: usize) -> bool
         ensures { λ r. ⌜ r ≡ isWire blocks (self .0) ⌝ }
     {
-        self.is(Kind::Wire)
-            && self.field(5, 9) == 0
-            && self.from() < blocks
-            && self.to() < blocks
+        self.is(Kind::Wire) && self.field(5, 9) == 0 && self.from() < blocks && self.to() < blocks
     }
 
     /// Whether the word closes a listing after so many words.

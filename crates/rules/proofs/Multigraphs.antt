@@ -52,8 +52,8 @@ module _ (g h : Graph Set Set) (f : List ℕ) where
         injective = m .injective;
         blocks = λ q a b one two.
             decides-subset a b .1 (λ k member.
-              let t = m .labels q k (a, one, member) in
-              subst (Member k) (one-label (sym (t .1) ∙ two)) (t .2));
+            let t = m .labels q k (a, one, member) in
+            subst (Member k) (one-label (sym (t .1) ∙ two)) (t .2));
         pairs = λ q r a b one two.
             let l = pair-below g q r a one in
             let fu = m .injective .below q (l .0) in
@@ -72,16 +72,14 @@ module _ (g h : Graph Set Set) (p : List ℕ) where
             let pv = n .injective .below v l in
             let s = nth-some (g .labels) v l in
             let t = nth-some (g .labels) (getD p v 0) pv in
-            let e = n .blocks v (s .0) (t .0) (s .1) (t .1) in
-            (
+            let e = n .blocks v (s .0) (t .0) (s .1) (t .1) in (
               λ (a, is, m). (t .0, t .1, same-member (s .0) (t .0) e k (subst (Member k) (one-label (sym is ∙ s .1)) m)),
               λ (a, is, m). (s .0, s .1, member-back (s .0) (t .0) e k (subst (Member k) (one-label (sym is ∙ t .1)) m)),
             );
         edges = λ u v k hu hv.
             let pu = n .injective .below u hu in
             let pv = n .injective .below v hv in
-            let e = n .pairs u v _ _ (pair-there g u v hu hv) (pair-there g (getD p u 0) (getD p v 0) pu pv) in
-            (
+            let e = n .pairs u v _ _ (pair-there g u v hu hv) (pair-there g (getD p u 0) (getD p v 0) pu pv) in (
               λ (a, b, m). (pu, pv, same-member (g .pairs u v) (g .pairs (getD p u 0) (getD p v 0)) e k m),
               λ (a, b, m). (hu, hv, member-back (g .pairs u v) (g .pairs (getD p u 0) (getD p v 0)) e k m),
             );

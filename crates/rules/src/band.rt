@@ -15,6 +15,7 @@ pub struct InBand;
 
 pub impl Rule for InBand as BandRule {
     type Pattern = Band;
+
     type Program = i32;
 
     ghost fits = { λ _. inBand };

@@ -9,6 +9,7 @@ pub struct Exact;
 
 pub impl Rule for Exact as ExactRule {
     type Pattern = Set;
+
     type Program = Set;
 
     ghost fits = { λ _. sameSet };

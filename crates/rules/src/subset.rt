@@ -14,6 +14,7 @@ pub struct Subset;
 
 pub impl Rule for Subset as SubsetRule {
     type Pattern = Set;
+
     type Program = Set;
 
     ghost fits = { λ _. isSubset };
@@ -33,7 +34,11 @@ pub impl Rule for Subset as SubsetRule {
 
 /// The task of finding a pattern in a program, both with sets for labels, under the subset rule for blocks and pairs:
 /// sub-multigraph matching.
-pub fn subset_task<'a, P, T>(pattern: &'a P, program: &'a T, rule: &'a Subset) -> Task<'a, P, T, Subset, Subset>
+pub fn subset_task<'a, P, T>(
+    pattern: &'a P,
+    program: &'a T,
+    rule: &'a Subset,
+) -> Task<'a, P, T, Subset, Subset>
 where
     P: Store<Label = Set, Pair = Set>,
     T: Store<Label = Set, Pair = Set>,

@@ -201,7 +201,7 @@ same-word s t hs ht = same-from-decides _ _ words (decides-same s t)
     words = (
       λ e k h. ap (has k) (eqb-true (s .0) (t .0) e),
       λ all. eq-eqb (s .0) (t .0) (same-from-members 32 (s .0) (t .0) hs ht
-        (λ k. ⊎-elim (all k) (λ h. has-past (s .0) k hs h ∙ sym (has-past (t .0) k ht h)) (cases-lt k 32))),
+          (λ k. ⊎-elim (all k) (λ h. has-past (s .0) k hs h ∙ sym (has-past (t .0) k ht h)) (cases-lt k 32))),
     )
 
 pub or-nothing : (x y : Bool) → y ≡ false → (x || y) ≡ x

@@ -1,1 +1,2 @@
 pub mod ListingStores
+pub mod RowStores

@@ -13,7 +13,7 @@ use Rattle.std.specs.declared.option.Option.the-variants.{Some, None}
 use Rattle.std.specs.declared.result.Result.{Result}
 use Rattle.std.specs.declared.result.Result.the-variants.{Ok, Err}
 use Rattle.std.proofs.shelf.Lists.{nil-from-length, take-more}
-use Rattle.std.proofs.shelf.Maps.{nth-past}
+use Rattle.std.proofs.shelf.Maps.{nth-past, nth-getD}
 use Rattle.std.proofs.shelf.Tests.{or-left, or-cases, eqb-true, eq-eqb, both-ways, cases-bool, and-parts, and-from}
 use Rattle.std.proofs.shelf.Ways.{tells}
 use Rattle.listing.specs.declared.counts.Counts.{Counts}
@@ -25,7 +25,10 @@ use Rattle.listing.specs.Words.{wireFrom, wireTo, wireType}
 use Rattle.sets.specs.Sets.{has, set, setOf, added}
 use Rattle.sets.specs.declared.Set.{Set}
 use Rattle.sets.proofs.Membership.{has-nothing, has-setOf, word-is, setOf-alike, or-nothing}
-use Rattle.listing.proofs.Accepts.{accepts}
+use native.Mathlib.Nat.{zero-add}
+use lib.Seq.{paste}
+use Rattle.std.proofs.shelf.Edits.{paste-more, paste-all}
+use Rattle.listing.proofs.Accepts.{accepts, ranges}
 use Rattle.listing.proofs.States.{runs-so}
 use Rattle.listing.proofs.Parts.{length-tags, nth-tags, length-wireWords}
 use Rattle.model.specs.Graphs.{blockCount, labelAt, pairAt}
@@ -109,8 +112,8 @@ module _ (es : List ℕ) (i u v : ℕ) (s : Set) (inside : i < length es) (so-fa
       let f = eqb-true _ _ (p .0) in
       let t = eqb-true _ _ (p .1) in
       ap set (setOf-alike _ _ (λ k h.
-        ap (λ b. b || eqb k (wireType (getD es i 0))) (held k h)
-        ∙ ap (λ b. anyOf (runs u v k) (take i es) || b) (sym (runs-own u v k (getD es i 0) f t)) ∙ sym (longer k)))
+      ap (λ b. b || eqb k (wireType (getD es i 0))) (held k h)
+      ∙ ap (λ b. anyOf (runs u v k) (take i es) || b) (sym (runs-own u v k (getD es i 0) f t)) ∙ sym (longer k)))
 
   pub gathered-skip : leads u v (getD es i 0) ≡ false → s ≡ gathered (take (i + 1) es) u v
   gathered-skip e =
@@ -120,7 +123,7 @@ module _ (es : List ℕ) (i u v : ℕ) (s : Set) (inside : i < length es) (so-fa
 -- ---- the answer for a pair
 module _ (ws : List ℕ) (r : isRead ws ≡ true) where
   pub read-pair : (u v b n : ℕ) → b ≡ countsOf ws .blocks → n ≡ countsOf ws .wires → u < b → v < b
-    → Some (gathered (take (1 + b + n - (1 + b)) (drop (1 + b) ws)) u v) ≡ pairAt (stated ws) u v
+      → Some (gathered (take (1 + b + n - (1 + b)) (drop (1 + b) ws)) u v) ≡ pairAt (stated ws) u v
   unfolding stated
   read-pair u v b n eb en hu hv =
       let count = read-count ws r in
@@ -130,3 +133,23 @@ module _ (ws : List ℕ) (r : isRead ws ≡ true) where
 
   pub read-no-pair : (u v : ℕ) → (countsOf ws .blocks ≤ u) ⊎ (countsOf ws .blocks ≤ v) → None ≡ pairAt (stated ws) u v
   read-no-pair u v h = sym (pair-absent (stated ws) u v (let count = read-count ws r in ⊎-elim (λ l. inl (omega arith)) (λ l. inr (omega arith)) h))
+
+-- ---- the labels, one block after another
+module _ (ws : List ℕ) (r : isRead ws ≡ true) where
+  pub read-few : countsOf ws .blocks ≤ 192
+  read-few = ⊎-elim (λ l. ranges ws l .1) (λ e. subst (λ vs. countsOf vs .blocks ≤ 192) (sym e) (omega arith)) (read-cases ws r)
+
+  pub labels-more : (m : List Set) (i : ℕ) (s : Set) → i < countsOf ws .blocks → i < length m → labelAt (stated ws) i ≡ Some s
+      → lib.ListN.set (paste m 0 (stated ws .labels) i) i s ≡ paste m 0 (stated ws .labels) (i + 1)
+  labels-more m i s h room e =
+      let count = read-count ws r in
+      let step = paste-more m 0 (stated ws .labels) i (set 0) (omega arith) (omega arith) in
+      let at : 0 + i ≡ i = zero-add i in
+      let is : Some (getD (stated ws .labels) i (set 0)) ≡ Some s = sym (nth-getD (stated ws .labels) i (set 0) (omega arith)) ∙ e in
+      let same : getD (stated ws .labels) i (set 0) ≡ s = cc in
+      ap₂ (λ j x. lib.ListN.set (paste m 0 (stated ws .labels) i) j x) (sym at) (sym same) ∙ step
+
+  pub labels-all : (m : List Set) (n : ℕ) → n ≡ countsOf ws .blocks → paste m 0 (stated ws .labels) n ≡ stated ws .labels ++ drop (blockCount (stated ws)) m
+  labels-all m n e =
+      let count = read-count ws r in
+      paste-all m 0 (stated ws .labels) n (e ∙ sym count) ∙ ap (λ k. stated ws .labels ++ drop k m) (zero-add n ∙ e ∙ sym count)

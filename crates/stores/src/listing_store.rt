@@ -1,13 +1,17 @@
 ghost use mathlib.Core.Path.{_≡_};
 ghost use denote.Ref.{now};
 ghost use mathlib.Core.Bool.{true, cond};
-ghost use mathlib.Core.List.{[]};
+ghost use mathlib.Core.List.{[], _++_};
+ghost use Prim.Native.Nat.{_≤_};
+ghost use lib.ListN.{drop};
+ghost use Rattle.model.specs.Graphs.{blockCount};
 ghost use Rattle.std.specs.Results.{isOk};
 ghost use Rattle.stores.specs.ListingStores.{isRead, readAnswer, gathered};
 ghost use Rattle.listing.specs.Graphs.{stated};
 ghost use Rattle.listing.specs.Listings.{countsOf};
 use listing::check::check;
 use listing::counts::Counts;
+use listing::counts::MOST_BLOCKS;
 use listing::fault::Fault;
 use listing::word::Word;
 use model::store::Store;
@@ -48,10 +52,24 @@ impl<'a> ListingStore<'a> {
         self.counts = counts;
         Ok(())
     }
+
+    /// Writes the label of each block into a memory of labels, in block order, and answers how many they are.
+    pub fn write_labels(&self, memory: &mut [Set; MOST_BLOCKS]) -> usize
+        ensures answer { λ r. ⌜ r ≡ blockCount (stated (now (now (self .entry) .words))) ⌝ }
+        ensures left { λ _. ⌜ now (memory .exit) ≡ stated (now (now (self .entry) .words)) .labels ++ drop (blockCount (stated (now (now (self .entry) .words)))) (now (memory .entry)) ⌝ }
+        ensures within { λ r. ⌜ r ≤ 192 ⌝ }
+    {
+        let count = self.counts.blocks;
+        for block in 0..count {
+            memory[block] = self.label(block).unwrap();
+        }
+        count
+    }
 }
 
 pub impl<'a> Store for ListingStore<'a> as ListingStoreStore {
     type Label = Set;
+
     type Pair = Set;
 
     ghost graph = { λ s. stated (now (s .words)) };
@@ -72,7 +90,11 @@ pub impl<'a> Store for ListingStore<'a> as ListingStoreStore {
         if from >= blocks || to >= blocks {
             return None;
         }
-        Some(wire_types(&self.words[1 + blocks..1 + blocks + self.counts.wires], from, to))
+        Some(wire_types(
+            &self.words[1 + blocks..1 + blocks + self.counts.wires],
+            from,
+            to,
+        ))
     }
 }
 

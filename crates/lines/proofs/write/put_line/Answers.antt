@@ -6,6 +6,9 @@ use borrow.Author.Needs.{needs}
 use lib.ListN.{length}
 use native.Mathlib.Omega.{arith}
 
+pub put-decimal-first-end-requires : need.put-decimal-first-end-requires
+put-decimal-first-end-requires c κs = search (needs, length-of-word, length-decimal-most)
+
 pub put-text-middle-end-requires : need.put-text-middle-end-requires
 put-text-middle-end-requires c κs = search (needs, length-of-word, length-decimal-most)
 

@@ -1,0 +1,4 @@
+pub mod Faults
+pub mod Layouts
+pub mod Passes
+pub mod Refills
