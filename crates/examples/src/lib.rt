@@ -11,5 +11,5 @@ pub fn examples() -> usize
     ensures count { λ r. ⌜ r ≡ length table ⌝ }
     ensures hold { λ _. ⌜ TableHolds ⌝ }
 {
-    2
+    7
 }
