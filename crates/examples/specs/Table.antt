@@ -5,6 +5,9 @@
 --   bySubset p q  the matching problem of a listing p in a listing q, by subset rules
 --   byExact p q   the same, with the exact rule for pairs
 --   Holds e       the definitions give the example's answer
+--   accepted, refused  an acceptance with two counts; a refusal with a number and a place
+--   fives         the band from -5 to 5
+--   loop, doubleLoop   a block wired to itself with type 0; with types 0 and 1
 --   table         the examples
 --   TableHolds    every example of the table holds
 use Prim.Native.Nat.{ℕ}
@@ -58,11 +61,9 @@ bySubset p q = instanceOf isSubset sameSet isSubset sameSet (stated p) (stated q
 abbrev pub byExact : List ℕ → List ℕ → Instance
 byExact p q = instanceOf isSubset sameSet sameSet sameSet (stated p) (stated q)
 
--- from -5 to 5
 abbrev pub fives : Band
 fives = record { low = negsuc 4; high = pos 5 }
 
--- a block wired to itself, with types 0, and with types 0 and 1
 abbrev pub loop : List ℕ
 loop = 0x00010001 ∷ 0x40000001 ∷ 0x80000000 ∷ 0xC0000003 ∷ []
 

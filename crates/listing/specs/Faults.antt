@@ -1,6 +1,8 @@
 -- The faults of words that are no listing, which of them comes first, and what the check answers.
 --
+--   placed n p       the refusal with number n at place p
 --   refusal f        the number of the fault f, and its place
+--   numberOf f       its number
 --   placeOf f        its place as a number
 --   fits ws f        the fault f is a fault of the words ws
 --   Before f g       f comes before g: at a lower place, or at the same place with a lower number
@@ -11,6 +13,8 @@
 --   faultsAt p       the faults that a word after the first can have at place p, lowest number first
 --   ranked n         every fault that n words can have, each before those that it comes before
 --   firstThat t xs   the first of xs that passes the test t
+--   at p             the place p
+--   answered c f     the answer where f is the first fault: f, or the counts c where there is none
 --   verdict ws       the first of the faults of ws; where there is none, the two counts
 use Prim.Native.Nat.{ℕ, _+_, _-_, _<_}
 use mathlib.Core.Path.{_≡_}

@@ -2,6 +2,7 @@
 --
 --   leads u v w       the wire word w lays a wire from u to v
 --   runs u v k w      the wire word w lays a wire of type k from u to v
+--   anyOf t ws        the test t passes at one of the words
 --   wired ws u v k    one of the wire words lays such a wire
 --   stated ws         the graph that the words state: each block is labelled with its tag set, and each ordered pair of
 --                     blocks with the set of the types of the wires from the one to the other

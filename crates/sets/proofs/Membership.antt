@@ -130,6 +130,9 @@ has-power (suc k) (suc j) =
     next : (m n : ℕ) → eqb m n ≡ eqb (suc m) (suc n)
     next m n = grind (arith, tells)
 
+pub has-or-power : (k a j : ℕ) → has k (bitOr a (2 ^ j)) ≡ (has k a || eqb k j)
+has-or-power k a j = has-or k a (2 ^ j) ∙ ap (λ b. has k a || b) (has-power k j)
+
 -- ---- words by their members
 -- tests that agree below 32 name one set
 pub setOf-alike : (t u : ℕ → Bool) → ((k : ℕ) → k < 32 → t k ≡ u k) → setOf t ≡ setOf u

@@ -1,10 +1,12 @@
 -- Sets of numbers below 32, each held in one word: the numbers of the bits that are 1.
 --
 --   has k w        the number k is in the set that the word w holds: bit k of w is 1
+--   setFrom t k n  the word of those of the n numbers from k up that pass the test t, with k as bit 0
 --   setOf t        the word of the set of the numbers below 32 that pass the test t
 --   set w          the set that the word w holds
 --   Member k s     the number k is in the set s
 --   everyBelow n t the test t passes at every number below n
+--   implies, agree  one test implies another; two tests are equal
 --   isSubset s t   every member of s is a member of t
 --   sameSet s t    s and t have the same members
 --   joined s t     the members of s and those of t
@@ -18,7 +20,6 @@ use Rattle.sets.specs.declared.Set.{Set}
 abbrev pub has : ℕ → ℕ → Bool
 has k s = eqb (s / 2 ^ k % 2) 1
 
--- the set of those of the n numbers from k up that pass the test, with k as bit 0
 abbrev pub setFrom : (ℕ → Bool) → ℕ → ℕ → ℕ
 setFrom t k zero = 0
 setFrom t k (suc n) = cond (t k) 1 0 + 2 * setFrom t (suc k) n

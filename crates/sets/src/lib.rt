@@ -1,6 +1,8 @@
 // Sets of numbers below 32, each held in one word.
 ghost use mathlib.Core.Path.{_≡_};
-ghost use Prim.Native.Nat.{ℕ};
+ghost use mathlib.Core.Bool.{_||_};
+ghost use Prim.Native.Nat.{ℕ, _<_};
+ghost use lib.Dec.{eqb};
 ghost use Rattle.std.specs.Orderings.{Decides};
 ghost use Rattle.sets.specs.Sets.{has, Member, isSubset, sameSet, joined, added};
 
@@ -21,14 +23,16 @@ impl Set {
 
     /// The members of the set, and those of another.
     pub fn union(self, other: Set) -> Set
-        ensures { λ r. ⌜ r ≡ joined self other ⌝ }
+        ensures value { λ r. ⌜ r ≡ joined self other ⌝ }
+        ensures members { λ r. ⌜ ((k : ℕ) → k < 32 → has k (r .0) ≡ (has k (self .0) || has k (other .0))) ⌝ }
     {
         Set(self.0 | other.0)
     }
 
     /// The members of the set, and one more number. A number that no set has, one of 32 or more, adds nothing.
     pub fn with(self, number: usize) -> Set
-        ensures { λ r. ⌜ r ≡ added number self ⌝ }
+        ensures value { λ r. ⌜ r ≡ added number self ⌝ }
+        ensures members { λ r. ⌜ ((k : ℕ) → k < 32 → has k (r .0) ≡ (has k (self .0) || eqb k number)) ⌝ }
     {
         if number < 32 {
             Set(self.0 | 1 << number)

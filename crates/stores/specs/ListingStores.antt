@@ -1,6 +1,7 @@
 -- What a listing store holds.
 --
 --   isRead ws       the words ws are a listing, or there are none, as in a store that has read nothing
+--   faultPart r     an answer of the check without its counts
 --   readAnswer ws   what reading ws answers: nothing, or the first fault of ws
 --   gathered es u v  the set of the types of those of the wire words es that run from u to v
 use Prim.Native.Nat.{ℕ}

@@ -3,6 +3,7 @@
 --   rowEntries starts entries u   the entries of row u: those from its start to the next row's start
 --   lists v k e                   the entry e puts k into the label of a pair that ends at v
 --   anyEntry v k es               one of the entries es does
+--   pairSet es v                  the union of those of the entries es that are for v
 --   rowGraph starts entries labels  the graph of a row store: these labels, and for each pair (u, v) the union of the
 --                                 entries of row u that are for v
 --   sizesFit starts labels        there are at most 192 labels, and one start more than labels
@@ -10,6 +11,7 @@
 --   startsFit starts entries n    starts begin at 0, never fall, and the start after n rows is the number of entries
 --   targetsFit entries n          every entry is for a block below n
 --   fillAnswer starts entries labels   what filling with these answers
+--   unplaced n                    the refusal with number n and no place
 --   refusal f                     the number of a fault of filling; it has no place
 use Prim.Native.Nat.{ℕ, zero, suc, _+_, _-_}
 use mathlib.Core.Bool.{Bool, true, false, cond, _&&_, _||_}

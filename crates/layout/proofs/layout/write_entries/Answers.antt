@@ -57,13 +57,13 @@ loop-i-again c =
       | then-opens w ↦
           let p = entries-pushed (c .args .words .now) (c .args .counts) (c .pre .listing) (c .args .entries .now) (c .pre .room) (c .loop-i .i) (c .loop-i-test .taken)
           (c .loop-i .written) (c .loop-i .entries) (entry (w .to .result) (w .with .result)) (sym (w .if-opens .ensures tt)) (c .loop-i .inv .0) (c .loop-i .inv .1)
-          (ap₂ entry (w .to .ensures) (w .with .ensures ∙ ap (λ k. added k (set 0)) (w .wire-type .ensures))) in
+          (ap₂ entry (w .to .ensures) (w .with .ensures .value ∙ ap (λ k. added k (set 0)) (w .wire-type .ensures))) in
           (w .written-is ∙ p .0, w .entries-is ∙ p .1)
       | else-opens w ↦
           let last = getD (c .loop-i .entries) (c .loop-i .written - 1) (entry 0 (set 0)) in
           let p = entries-grown (c .args .words .now) (c .args .counts) (c .pre .listing) (c .args .entries .now) (c .pre .room) (c .loop-i .i) (c .loop-i-test .taken)
           (c .loop-i .written) (c .loop-i .entries) (entry (last .to) (w .with-else-opens .result)) (entry 0 (set 0)) (sym (w .if-opens .ensures tt)) (c .loop-i .inv .0) (c .loop-i .inv .1)
-          (ap (entry (last .to)) (w .with-else-opens .ensures ∙ ap (λ k. added k (last .types)) (w .wire-type-else-opens .ensures))) in
+          (ap (entry (last .to)) (w .with-else-opens .ensures .value ∙ ap (λ k. added k (last .types)) (w .wire-type-else-opens .ensures))) in
           (w .written-is ∙ p .0, w .entries-is ∙ p .1)
     ]
 

@@ -9,4 +9,7 @@ pub returns : need.returns
 returns c =
     let a = c .args .self .0 in
     let b = c .args .other .0 in
-    ap set (word-is (bitOr a b) _ (or-lt 32 a b (omega arith) (omega arith)) (λ k h. has-or k a b))
+    record {
+      value = ap set (word-is (bitOr a b) _ (or-lt 32 a b (omega arith) (omega arith)) (λ k h. has-or k a b));
+      members = λ k h. has-or k a b;
+    }

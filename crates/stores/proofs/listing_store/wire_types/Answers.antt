@@ -16,7 +16,7 @@ loop-wire-again c =
     let es = c .args .wires .now in
     let i = c .loop-wire .wire-index in
     elim (c .if-leads .came) [
-      | then-leads w ↦ w .types-is ∙ w .with-types .ensures ∙ ap (λ k. added k (c .loop-wire .types)) (w .wire-type .ensures) ∙ gathered-with es i (c .args .from) (c .args .to) (c .loop-wire .types) (omega arith) (c .loop-wire .inv) (sym (c .leads .ensures) ∙ w .if-leads .taken)
+      | then-leads w ↦ w .types-is ∙ w .with-types .ensures .value ∙ ap (λ k. added k (c .loop-wire .types)) (w .wire-type .ensures) ∙ gathered-with es i (c .args .from) (c .args .to) (c .loop-wire .types) (omega arith) (c .loop-wire .inv) (sym (c .leads .ensures) ∙ w .if-leads .taken)
       | else-leads w ↦ w .types-is ∙ gathered-skip es i (c .args .from) (c .args .to) (c .loop-wire .types) (omega arith) (c .loop-wire .inv) (sym (c .leads .ensures) ∙ w .if-leads .left)
     ]
 

@@ -12,7 +12,7 @@ pub loop-entry-again : need.loop-entry-again
 loop-entry-again c =
     let i = c .loop-entry .entry-index in
     elim (c .if-entry-to .came) [
-      | then-entry-to w ↦ w .types-is ∙ w .union-types .ensures ∙ union-with (c .args .row .now) i (c .args .to) _ (c .loop-entry .types) (c .loop-entry-test .taken) (c .loop-entry .inv) (w .if-entry-to .taken)
+      | then-entry-to w ↦ w .types-is ∙ w .union-types .ensures .value ∙ union-with (c .args .row .now) i (c .args .to) _ (c .loop-entry .types) (c .loop-entry-test .taken) (c .loop-entry .inv) (w .if-entry-to .taken)
       | else-entry-to w ↦ w .types-is ∙ union-skip (c .args .row .now) i (c .args .to) _ (c .loop-entry .types) (c .loop-entry-test .taken) (c .loop-entry .inv) (w .if-entry-to .left)
     ]
 
