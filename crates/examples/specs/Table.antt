@@ -21,7 +21,8 @@ use Rattle.std.specs.declared.result.Result.the-variants.{Ok, Err}
 use Rattle.refusal.specs.declared.Refusal.{Refusal}
 use Rattle.listing.specs.declared.counts.Counts.{Counts}
 use Rattle.listing.specs.declared.fault.Fault.{Fault}
-use Rattle.listing.specs.Faults.{placed, refusal, verdict}
+use Rattle.refusal.specs.Refusals.{placed}
+use Rattle.listing.specs.Faults.{refusal, verdict}
 use Rattle.listing.specs.Graphs.{stated}
 use Rattle.model.specs.Instances.{Instance, Embedding}
 use Rattle.model.specs.Tasks.{instanceOf}

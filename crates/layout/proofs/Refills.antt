@@ -13,11 +13,11 @@ use Rattle.std.specs.Iters.{counting}
 use Rattle.std.specs.Joined.{joined}
 use Rattle.std.proofs.shelf.Lists.{length-append, append-assoc, take-at, drop-at}
 use Rattle.std.proofs.shelf.Counted.{length-map-counting, getD-map-counting}
-use Rattle.std.proofs.shelf.Tests.{cond-true, cond-false, le-leb, lt-ltb, eq-eqb, ne-eqb, eqb-true, and-from, and-left, cases-order, and-parts, ltb-true}
+use Rattle.std.proofs.shelf.Tests.{cond-true, cond-false, le-leb, lt-ltb, eq-eqb, ne-eqb, eqb-true, and-from, and-left, and-right, cases-order, and-parts, ltb-true}
 use Rattle.model.specs.Graphs.{Graph, blockCount, labelAt, pairAt, SameMeaning}
 use Rattle.sets.specs.Sets.{has, set, setOf, everyBelow}
 use Rattle.sets.specs.declared.Set.{Set}
-use Rattle.sets.proofs.Membership.{has-nothing, word-is, setOf-lt}
+use Rattle.sets.proofs.Membership.{has-nothing, word-is, setOf-lt, or-nothing}
 use Rattle.std.specs.declared.option.Option.the-variants.{Some, None}
 use Rattle.std.specs.declared.result.Result.the-variants.{Ok, Err}
 use Rattle.listing.specs.declared.counts.Counts.{Counts}
@@ -29,17 +29,10 @@ use Rattle.layout.specs.Refills.{Refilled}
 use Rattle.stores.specs.declared.entry.Entry.{Entry}
 use Rattle.stores.specs.RowStores.{rowEntries, lists, anyEntry, pairSet, rowGraph, sizesFit, neverFalls, startsFit, targetsFit, fillAnswer}
 use Rattle.layout.specs.Layouts.{entry, cellOf, rowOf, entriesOf, startOf, startsOf, laid}
+use Rattle.stores.proofs.RowStores.{anyEntry-append}
 use Rattle.layout.proofs.Joins.{joined-split}
 
 -- ---- lists of entries
-anyEntry-append : (v k : ℕ) (xs ys : List Entry) → anyEntry v k (xs ++ ys) ≡ (anyEntry v k xs || anyEntry v k ys)
-anyEntry-append v k [] ys = refl
-anyEntry-append v k (x ∷ xs) ys = ap (λ b. lists v k x || b) (anyEntry-append v k xs ys) ∙ or-assoc (lists v k x) (anyEntry v k xs) (anyEntry v k ys)
-  where
-    or-assoc : (a b c : Bool) → (a || (b || c)) ≡ (a || b || c)
-    or-assoc true b c = refl
-    or-assoc false b c = refl
-
 targets-append : (n : ℕ) (xs ys : List Entry) → targetsFit xs n ≡ true → targetsFit ys n ≡ true → targetsFit (xs ++ ys) n ≡ true
 targets-append n [] ys a b = b
 targets-append n (x ∷ xs) ys a b = go (ltb (x .to) n) a (λ h. targets-append n xs ys h b)
@@ -59,17 +52,9 @@ module _ (g : Graph Set Set) where
   any-cell : (u a v k : ℕ) → anyEntry v k (cellOf g u a) ≡ (eqb a v && has k (g .pairs u a .0))
   any-cell u a v k = go (eqb (g .pairs u a .0) 0) refl
     where
-      nothing : (b : Bool) → (b && false) ≡ false
-      nothing true = refl
-      nothing false = refl
-
-      alone : (b : Bool) → (b || false) ≡ b
-      alone true = refl
-      alone false = refl
-
       go : (b : Bool) → eqb (g .pairs u a .0) 0 ≡ b → anyEntry v k (cond b [] (entry a (g .pairs u a) ∷ [])) ≡ (eqb a v && has k (g .pairs u a .0))
-      go true e = sym (ap (λ w. eqb a v && has k w) (eqb-true (g .pairs u a .0) 0 e) ∙ ap (λ b. eqb a v && b) (has-nothing k) ∙ nothing (eqb a v))
-      go false e = alone (eqb a v && has k (g .pairs u a .0))
+      go true e = sym (ap (λ w. eqb a v && has k w) (eqb-true (g .pairs u a .0) 0 e) ∙ ap (λ b. eqb a v && b) (has-nothing k) ∙ and-right (eqb a v) false refl)
+      go false e = or-nothing (eqb a v && has k (g .pairs u a .0)) false refl
 
   target-cell : (u a m : ℕ) → a < m → targetsFit (cellOf g u a) m ≡ true
   target-cell u a m h = go (eqb (g .pairs u a .0) 0)
@@ -90,13 +75,9 @@ module _ (g : Graph Set Set) where
   any-at u v k a (suc n) low high =
       anyEntry-append v k (cellOf g u a) (joined (cellOf g u) (counting (a + 1) n))
       ∙ ⊎-elim
-      (λ e. ap₂ (λ x y. x || y) (any-cell u a v k ∙ ap (λ b. b && has k (g .pairs u a .0)) (eq-eqb a v e)) (any-below u v k (a + 1) n (omega arith)) ∙ alone _ ∙ ap (λ x. has k (g .pairs u x .0)) e)
+      (λ e. ap₂ (λ x y. x || y) (any-cell u a v k ∙ ap (λ b. b && has k (g .pairs u a .0)) (eq-eqb a v e)) (any-below u v k (a + 1) n (omega arith)) ∙ or-nothing _ false refl ∙ ap (λ x. has k (g .pairs u x .0)) e)
       (⊎-elim (λ l. ap₂ (λ x y. x || y) (any-cell u a v k ∙ and-left _ _ (ne-eqb a v (λ e. omega arith))) (any-at u v k (a + 1) n (omega arith) (omega arith))) (λ l. absurd (omega arith)))
       (cases-order a v)
-    where
-      alone : (b : Bool) → (b || false) ≡ b
-      alone true = refl
-      alone false = refl
 
   row-set : (u v : ℕ) → v < blockCount g → g .pairs u v .0 < 2 ^ 32 → pairSet (rowOf g u) v ≡ g .pairs u v
   unfolding rowOf

@@ -14,9 +14,9 @@ use Rattle.lines.specs.declared.fault.LineFault.the-variants.{ShortBuffer}
 use Rattle.lines.specs.declared.role.Role.{Role}
 use Rattle.lines.specs.declared.role.Role.the-variants.{Pattern, Program}
 use Rattle.listing.specs.declared.counts.Counts.{Counts}
+use Rattle.refusal.specs.Refusals.{unplaced}
 use Rattle.refusal.specs.declared.Refusal.{Refusal}
 use Rattle.std.specs.Written.{decimal}
-use Rattle.std.specs.declared.option.Option.the-variants.{None}
 use Rattle.std.specs.declared.result.Result.{Result}
 use Rattle.std.specs.declared.result.Result.the-variants.{Ok, Err}
 use lib.Chars.{codes}
@@ -31,7 +31,7 @@ roleWord Pattern = codes "pattern"
 roleWord Program = codes "program"
 
 abbrev pub refusal : LineFault → Refusal
-refusal ShortBuffer = record { number = record { 0 = 8 }; place = None }
+refusal ShortBuffer = unplaced 8
 
 unfoldable pub numberLine : Role → ℕ → List ℕ → ℕ → List ℕ → List ℕ
 numberLine role first middle second end = roleWord role ++ codes " " ++ decimal first ++ middle ++ decimal second ++ end

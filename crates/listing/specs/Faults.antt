@@ -1,6 +1,5 @@
 -- The faults of words that are no listing, which of them comes first, and what the check answers.
 --
---   placed n p       the refusal with number n at place p
 --   refusal f        the number of the fault f, and its place
 --   numberOf f       its number
 --   placeOf f        its place as a number
@@ -31,15 +30,13 @@ use Rattle.std.specs.declared.option.Option.the-variants.{Some, None}
 use Rattle.std.specs.declared.result.Result.{Result}
 use Rattle.std.specs.declared.result.Result.the-variants.{Ok, Err}
 use Rattle.listing.specs.declared.counts.Counts.{Counts}
+use Rattle.refusal.specs.Refusals.{placed}
 use Rattle.refusal.specs.declared.Place.{Place}
 use Rattle.refusal.specs.declared.Refusal.{Refusal}
 use Rattle.listing.specs.declared.fault.Fault.{Fault}
 use Rattle.listing.specs.declared.fault.Fault.the-variants.{WordCount, Opening, Total, Block, Wire, Rise, Closing, PartialWord}
 use Rattle.listing.specs.Words.{isOpening, isBlock, isWire, isClosing}
 use Rattle.listing.specs.Listings.{word, countsOf}
-
-abbrev pub placed : ℕ → ℕ → Refusal
-placed n p = record { number = record { 0 = n }; place = Some (record { 0 = p }) }
 
 abbrev pub refusal : Fault → Refusal
 refusal WordCount = placed 10 0

@@ -207,6 +207,10 @@ same-word s t hs ht = same-from-decides _ _ words (decides-same s t)
           (λ k. ⊎-elim (all k) (λ h. has-past (s .0) k hs h ∙ sym (has-past (t .0) k ht h)) (cases-lt k 32))),
     )
 
+pub or-assoc : (a b c : Bool) → (a || (b || c)) ≡ (a || b || c)
+or-assoc true b c = refl
+or-assoc false b c = refl
+
 pub or-nothing : (x y : Bool) → y ≡ false → (x || y) ≡ x
 or-nothing true y e = refl
 or-nothing false y e = e

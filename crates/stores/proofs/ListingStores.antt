@@ -24,7 +24,7 @@ use Rattle.listing.specs.Graphs.{anyOf, leads, runs, tagSet, typeSet, stated}
 use Rattle.listing.specs.Words.{wireFrom, wireTo, wireType}
 use Rattle.sets.specs.Sets.{has, set, setOf, added}
 use Rattle.sets.specs.declared.Set.{Set}
-use Rattle.sets.proofs.Membership.{has-nothing, has-setOf, word-is, setOf-alike, or-nothing}
+use Rattle.sets.proofs.Membership.{has-nothing, has-setOf, word-is, setOf-alike, or-assoc, or-nothing}
 use native.Mathlib.Nat.{zero-add}
 use lib.Seq.{paste}
 use Rattle.std.proofs.shelf.Edits.{paste-more, paste-all}
@@ -71,16 +71,8 @@ module _ (ws : List ℕ) (r : isRead ws ≡ true) where
 
 -- ---- gathering the types of a pair, one wire word after another
 anyOf-push : (t : ℕ → Bool) (es : List ℕ) (w : ℕ) → anyOf t (es ++ w ∷ []) ≡ (anyOf t es || t w)
-anyOf-push t [] w = or-false (t w)
-  where
-    or-false : (b : Bool) → (b || false) ≡ (false || b)
-    or-false true = refl
-    or-false false = refl
+anyOf-push t [] w = or-nothing (t w) false refl
 anyOf-push t (e ∷ es) w = ap (λ b. t e || b) (anyOf-push t es w) ∙ or-assoc (t e) (anyOf t es) (t w)
-  where
-    or-assoc : (a b c : Bool) → (a || (b || c)) ≡ (a || b || c)
-    or-assoc true b c = refl
-    or-assoc false b c = refl
 
 pub gathered-none : (u v : ℕ) → set 0 ≡ gathered [] u v
 gathered-none u v = ap set (word-is 0 (λ k. false) (omega arith) (λ k h. has-nothing k))

@@ -9,10 +9,10 @@ use native.Mathlib.Omega.{arith}
 use lib.Dec.{eqb, leb, ltb}
 use lib.ListN.{length, getD, take, drop}
 use Rattle.std.proofs.shelf.Lists.{take-more, drop-more, drop-all}
-use Rattle.std.proofs.shelf.Tests.{leb-true, le-leb, lt-leb, le-ltb, lt-ltb, and-parts, and-from, and-left, eqb-true, ne-eqb, eq-eqb, cases-order}
+use Rattle.std.proofs.shelf.Tests.{leb-true, le-leb, lt-leb, le-ltb, lt-ltb, and-parts, and-from, and-left, and-right, eqb-true, ne-eqb, eq-eqb, cases-order}
 use Rattle.sets.specs.Sets.{has, set, setOf, everyBelow, joined}
 use Rattle.sets.specs.declared.Set.{Set}
-use Rattle.sets.proofs.Membership.{has-nothing, has-setOf, word-is, setOf-alike, or-nothing}
+use Rattle.sets.proofs.Membership.{has-nothing, has-setOf, word-is, setOf-alike, or-assoc, or-nothing}
 use Rattle.stores.specs.declared.entry.Entry.{Entry}
 use Rattle.stores.specs.RowStores.{rowEntries, lists, anyEntry, pairSet, rowGraph, sizesFit, neverFalls, startsFit, targetsFit}
 
@@ -24,14 +24,7 @@ pub never-stops : (starts : List ℕ) (n k : ℕ) → k < n → getD starts (k +
 never-stops starts zero k h l = absurd (omega arith)
 never-stops starts (suc n) k h l =
     ⊎-elim (λ e. and-left _ _ (lt-leb (getD starts n 0) (getD starts (n + 1) 0) (subst (λ m. getD starts (m + 1) 0 < getD starts m 0) e l)))
-    (λ o. and-right′ (⊎-elim (λ b. never-stops starts n k b l) (λ b. absurd (omega arith)) o)) (cases-order k n)
-  where
-    and-right′ : neverFalls starts n ≡ false → (leb (getD starts n 0) (getD starts (n + 1) 0) && neverFalls starts n) ≡ false
-    and-right′ e = ap (λ b. leb (getD starts n 0) (getD starts (n + 1) 0) && b) e ∙ nothing (leb (getD starts n 0) (getD starts (n + 1) 0))
-      where
-        nothing : (b : Bool) → (b && false) ≡ false
-        nothing true = refl
-        nothing false = refl
+    (λ o. and-right (leb (getD starts n 0) (getD starts (n + 1) 0)) (neverFalls starts n) (⊎-elim (λ b. never-stops starts n k b l) (λ b. absurd (omega arith)) o)) (cases-order k n)
 
 -- a row ends where the next begins, no earlier than it begins, and within the entries
 never-step : (starts : List ℕ) (n k : ℕ) → neverFalls starts n ≡ true → k < n → getD starts k 0 ≤ getD starts (k + 1) 0
@@ -72,17 +65,13 @@ targets-more es i n d h l =
 pub targets-all : (es : List Entry) (i n : ℕ) → length es ≤ i → targetsFit (drop i es) n ≡ true
 targets-all es i n h = ap (λ xs. targetsFit xs n) (drop-all i es h)
 
+pub anyEntry-append : (v k : ℕ) (xs ys : List Entry) → anyEntry v k (xs ++ ys) ≡ (anyEntry v k xs || anyEntry v k ys)
+anyEntry-append v k [] ys = refl
+anyEntry-append v k (x ∷ xs) ys =
+    ap (λ b. lists v k x || b) (anyEntry-append v k xs ys) ∙ or-assoc (lists v k x) (anyEntry v k xs) (anyEntry v k ys)
+
 anyEntry-push : (v k : ℕ) (es : List Entry) (e : Entry) → anyEntry v k (es ++ e ∷ []) ≡ (anyEntry v k es || lists v k e)
-anyEntry-push v k [] e = or-false (lists v k e)
-  where
-    or-false : (b : Bool) → (b || false) ≡ (false || b)
-    or-false true = refl
-    or-false false = refl
-anyEntry-push v k (x ∷ es) e = ap (λ b. lists v k x || b) (anyEntry-push v k es e) ∙ or-assoc (lists v k x) (anyEntry v k es) (lists v k e)
-  where
-    or-assoc : (a b c : Bool) → (a || (b || c)) ≡ (a || b || c)
-    or-assoc true b c = refl
-    or-assoc false b c = refl
+anyEntry-push v k es e = anyEntry-append v k es (e ∷ []) ∙ ap (λ b. anyEntry v k es || b) (or-nothing (lists v k e) false refl)
 
 pub union-none : (v : ℕ) → set 0 ≡ pairSet [] v
 union-none v = ap set (word-is 0 (λ k. false) (omega arith) (λ k h. has-nothing k))

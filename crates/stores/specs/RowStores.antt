@@ -11,16 +11,15 @@
 --   startsFit starts entries n    starts begin at 0, never fall, and the start after n rows is the number of entries
 --   targetsFit entries n          every entry is for a block below n
 --   fillAnswer starts entries labels   what filling with these answers
---   unplaced n                    the refusal with number n and no place
 --   refusal f                     the number of a fault of filling; it has no place
 use Prim.Native.Nat.{ℕ, zero, suc, _+_, _-_}
 use mathlib.Core.Bool.{Bool, true, false, cond, _&&_, _||_}
 use mathlib.Core.List.{List, [], _∷_}
 use lib.Dec.{eqb, leb, ltb}
 use lib.ListN.{length, getD, take, drop}
-use Rattle.std.specs.declared.option.Option.the-variants.{None}
 use Rattle.std.specs.declared.result.Result.{Result}
 use Rattle.std.specs.declared.result.Result.the-variants.{Ok, Err}
+use Rattle.refusal.specs.Refusals.{unplaced}
 use Rattle.refusal.specs.declared.Refusal.{Refusal}
 use Rattle.model.specs.Graphs.{Graph}
 use Rattle.sets.specs.Sets.{has, set, setOf, everyBelow}
@@ -64,9 +63,6 @@ fillAnswer starts entries labels =
     cond (sizesFit starts labels)
     (cond (startsFit starts entries (length labels)) (cond (targetsFit entries (length labels)) (Ok tt) (Err Target)) (Err Starts))
     (Err Sizes)
-
-abbrev pub unplaced : ℕ → Refusal
-unplaced n = record { number = record { 0 = n }; place = None }
 
 abbrev pub refusal : FillFault → Refusal
 refusal Sizes = unplaced 20
