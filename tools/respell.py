@@ -61,6 +61,17 @@ def own_names():
     return own, functions
 
 
+def borrowed():
+    """The names that a file takes from a library of the kit, which keep their spelling."""
+    own, names = set(os.listdir("crates")), set()
+    for path in files(".antt", ".rt"):
+        for module, list_of in re.findall(r"use ([\w.'-]+)\.\{([^}]*)\}", read(path)):
+            parts = module.split(".")
+            if parts[0] != "Rattle" or parts[1] not in own:
+                names |= {n.strip().split(" as ")[0] for n in list_of.split(",")}
+    return names
+
+
 def respelled(name, functions):
     parts = [snake(p) for p in name.split("-")]
     text = parts[0]
@@ -87,7 +98,7 @@ def fields():
 def plan():
     """The renamings, by name: of definitions and fields first; a lemma that would have the name of one gets `_lem`."""
     own, functions = own_names()
-    wanted = {n: respelled(n, functions) for n in own}
+    wanted = {n: respelled(n, functions) for n in own - borrowed()}
     tokens = set()
     for path in files(".antt", ".rt"):
         tokens |= set(NAME.findall(read(path)))

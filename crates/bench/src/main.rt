@@ -1,5 +1,7 @@
 // Times a pair question in each store, and the layout of a full listing. What was counted is printed on standard output; what
 // it cost, in nanoseconds, on standard error.
+#![tactic(auto)]
+
 use anyhow::anyhow;
 use layout::layout::layout;
 use listing::counts::{MOST_BLOCKS, MOST_WIRES};

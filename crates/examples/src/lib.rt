@@ -1,4 +1,6 @@
 // Worked examples, proved from the definitions, and tests that run the code.
+#![tactic(auto)]
+
 ghost use Rattle.std.specs.Prelude.{◌≡◌, length};
 ghost use Rattle.examples.specs.Table.{table, TableHolds};
 

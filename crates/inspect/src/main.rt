@@ -1,4 +1,6 @@
 // Prints, for pattern.bin and program.bin of this folder, what each holds or where its first fault is.
+#![tactic(auto)]
+
 use anyhow::anyhow;
 use inspection::{PRINTOUT, file_graph_line, file_line, inspect};
 use lines::graph::GRAPH_LINE;

@@ -1,4 +1,6 @@
 // What `inspect` prints: a line for each of two files.
+#![tactic(auto)]
+
 ghost use Rattle.std.specs.Prelude.{◌≡◌, ◌≤◌, ◌++◌, length, IfOk};
 ghost use Rattle.lines.specs.GraphLines.{line_length, line_over, Short};
 ghost use Rattle.lines.specs.Lines.{line_answer, line_left};

@@ -1,4 +1,6 @@
 // The text of the lines that the programs print.
+#![tactic(auto)]
+
 pub mod fault;
 pub mod graph;
 pub mod role;

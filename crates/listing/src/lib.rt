@@ -1,4 +1,6 @@
 // The listing format: which words are a listing, and where the first fault is.
+#![tactic(auto)]
+
 pub mod check;
 pub mod counts;
 pub mod fault;

@@ -1,4 +1,6 @@
 // What the finder is told: stores, label rules, and the matching problem that they make.
+#![tactic(auto)]
+
 pub mod among;
 pub mod block;
 pub mod problem;

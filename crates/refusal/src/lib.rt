@@ -1,4 +1,5 @@
 // How every refusal of the product is told: by a number and, where it has one, a place.
+#![tactic(auto)]
 
 /// The number by which a refusal is known.
 #[derive(Clone, Copy, PartialEq, Eq, Debug)]

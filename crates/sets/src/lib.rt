@@ -1,4 +1,6 @@
 // Sets of numbers below 32, each held in one word.
+#![tactic(auto)]
+
 ghost use Rattle.std.specs.Prelude.{◌≡◌, ℕ, ◌<◌, ◌||◌, Decides, ◌==◌};
 ghost use Rattle.sets.specs.Sets.{has, Member, is_subset, same_set, joined, added};
 

@@ -1,4 +1,6 @@
 // The stores: what holds a pattern or a program for the finder.
+#![tactic(auto)]
+
 pub mod entry;
 pub mod fault;
 pub mod listing_store;

@@ -24,8 +24,8 @@ returns-in-Err c =
       means = tt;
     }
 
-pub overflow-add-counts : goal.overflow-add-counts
-overflow-add-counts c = let f = few_blocks c.args.words.now c.in-Ok.counts (listed (goal.at.overflow-add-counts c).In-Ok) in omega arith
+pub overflow_add-counts : goal.overflow_add-counts
+overflow_add-counts c = let f = few_blocks c.args.words.now c.in-Ok.counts (listed (goal.at.overflow_add-counts c).In-Ok) in omega arith
 
 pub returns-then-starts-counts : goal.returns-then-starts-counts
 returns-then-starts-counts c =
@@ -54,12 +54,12 @@ returns-then-entries-pairs c =
     let f = fault_entries ws ss es c.in-Ok.counts l c.check.result c.check.ensures.answer c.in-Ok.is (omega arith) (omega arith) in
     record { answer = refused_answer ws ss es ShortEntries f; starts = refused_starts ws ss es ShortEntries f; entries = refused_entries ws ss es ShortEntries f; means = tt }
 
-pub write-starts-requires : goal.write-starts-requires
-write-starts-requires c = record { listing = listed (goal.at.write-starts-requires c).In-Ok; room = omega arith }
+pub write_starts-requires : goal.write_starts-requires
+write_starts-requires c = record { listing = listed (goal.at.write_starts-requires c).In-Ok; room = omega arith }
 
-pub write-entries-requires : goal.write-entries-requires
-write-entries-requires c =
-    let l = listed (goal.at.write-entries-requires c).In-Ok in
+pub write_entries-requires : goal.write_entries-requires
+write_entries-requires c =
+    let l = listed (goal.at.write_entries-requires c).In-Ok in
     let n = entry_count c.args.words.now c.in-Ok.counts l c.pass-pairs.result.pairs c.pass-pairs.ensures.start in
     record { listing = l; room = omega arith }
 
@@ -73,7 +73,7 @@ returns c =
     let f = no_fault ws ss es c.in-Ok.counts l c.check.result c.check.ensures.answer c.in-Ok.is (omega arith) (omega arith) in
     record {
       answer = made_answer ws ss es c.pass-pairs.result.pairs n f;
-      starts = c.write-starts.ensures ∙ made_starts ws ss es f;
-      entries = c.write-entries.ensures ∙ made_entries ws ss es f;
-      means = refilled_from ws c.in-Ok.counts l ss es _ _ c.pass-pairs.result.pairs c.write-starts.ensures c.write-entries.ensures n;
+      starts = c.write_starts.ensures ∙ made_starts ws ss es f;
+      entries = c.write_entries.ensures ∙ made_entries ws ss es f;
+      means = refilled_from ws c.in-Ok.counts l ss es _ _ c.pass-pairs.result.pairs c.write_starts.ensures c.write_entries.ensures n;
     }

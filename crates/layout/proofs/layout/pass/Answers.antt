@@ -13,8 +13,8 @@ returns-then-from-row c =
           (omega arith);
     }
 
-pub overflow-add-pairs : goal.overflow-add-pairs
-overflow-add-pairs c =
+pub overflow_add-pairs : goal.overflow_add-pairs
+overflow_add-pairs c =
     let f = few_pairs c.args.words.now c.args.counts c.requires.listing c.args.row (passing c.loop-i.i c.loop-i.pairs) c.loop-i.invariant in
     omega arith
 

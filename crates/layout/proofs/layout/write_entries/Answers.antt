@@ -24,26 +24,26 @@ adding c =
     let e = c.loop-i.invariant.0 in
     (omega arith, omega arith, omega arith)
 
-pub offset-bounds-entries-written : goal.offset-bounds-entries-written
-offset-bounds-entries-written c = let f = opening (goal.at.offset-bounds-entries-written c).Then-opens in omega arith
+pub offset_bounds-entries-written : goal.offset_bounds-entries-written
+offset_bounds-entries-written c = let f = opening (goal.at.offset_bounds-entries-written c).Then-opens in omega arith
 
 pub bounds-entries-written : goal.bounds-entries-written
 bounds-entries-written c = let f = opening (goal.at.bounds-entries-written c).Then-opens in omega arith
 
-pub overflow-add-written : goal.overflow-add-written
-overflow-add-written c = let f = opening (goal.at.overflow-add-written c).Then-opens in omega arith
+pub overflow_add-written : goal.overflow_add-written
+overflow_add-written c = let f = opening (goal.at.overflow_add-written c).Then-opens in omega arith
 
-pub overflow-sub-last : goal.overflow-sub-last
-overflow-sub-last c = let f = adding c in omega arith
+pub overflow_sub-last : goal.overflow_sub-last
+overflow_sub-last c = let f = adding c in omega arith
 
-pub offset-bounds-entries-last : goal.offset-bounds-entries-last
-offset-bounds-entries-last c = let f = adding c in omega arith
+pub offset_bounds-entries-last : goal.offset_bounds-entries-last
+offset_bounds-entries-last c = let f = adding c in omega arith
 
 pub bounds-entries-last : goal.bounds-entries-last
 bounds-entries-last c = let f = adding c in omega arith
 
-pub offset-bounds-entries-last-else-opens : goal.offset-bounds-entries-last-else-opens
-offset-bounds-entries-last-else-opens c = let f = adding (goal.at.offset-bounds-entries-last-else-opens c).Else-opens in omega arith
+pub offset_bounds-entries-last-else-opens : goal.offset_bounds-entries-last-else-opens
+offset_bounds-entries-last-else-opens c = let f = adding (goal.at.offset_bounds-entries-last-else-opens c).Else-opens in omega arith
 
 pub bounds-entries-last-else-opens : goal.bounds-entries-last-else-opens
 bounds-entries-last-else-opens c = let f = adding (goal.at.bounds-entries-last-else-opens c).Else-opens in omega arith
@@ -54,13 +54,13 @@ loop-i-preserved c =
       | then-opens w ↦
           let p = entries_pushed c.args.words.now c.args.counts c.requires.listing c.args.entries.now c.requires.room c.loop-i.i c.loop-i-test.true
           c.loop-i.written c.loop-i.entries (entry w.to.result w.with.result) (sym w.if-opens.ensures) c.loop-i.invariant.0 c.loop-i.invariant.1
-          (ap₂ entry w.to.ensures (w.with.ensures.value ∙ ap (λ k. added k (set 0)) w.wire-type.ensures)) in
+          (ap₂ entry w.to.ensures (w.with.ensures.value ∙ ap (λ k. added k (set 0)) w.wire_type.ensures)) in
           (w.written-is ∙ p.0, w.entries-is ∙ p.1)
       | else-opens w ↦
           let last = get_or c.loop-i.entries (c.loop-i.written - 1) (entry 0 (set 0)) in
           let p = entries_grown c.args.words.now c.args.counts c.requires.listing c.args.entries.now c.requires.room c.loop-i.i c.loop-i-test.true
           c.loop-i.written c.loop-i.entries (entry last.to w.with-else-opens.result) (entry 0 (set 0)) (sym w.if-opens.ensures) c.loop-i.invariant.0 c.loop-i.invariant.1
-          (ap (entry last.to) (w.with-else-opens.ensures.value ∙ ap (λ k. added k last.types) w.wire-type-else-opens.ensures)) in
+          (ap (entry last.to) (w.with-else-opens.ensures.value ∙ ap (λ k. added k last.types) w.wire_type-else-opens.ensures)) in
           (w.written-is ∙ p.0, w.entries-is ∙ p.1)
     ]
 

@@ -9,8 +9,8 @@ use Rattle.layout.proofs.layout.write_starts.Goals as goal
 pub loop-row-init : goal.loop-row-init
 loop-row-init c = (no_wires c.args.words.now 0, paste_none c.args.starts.now 0 (starts_of (stated c.args.words.now)))
 
-pub overflow-cast-starts : goal.overflow-cast-starts
-overflow-cast-starts c = let f = few_pairs c.args.words.now c.args.counts c.requires.listing c.loop-row.row c.pass-passed.result c.pass-passed.ensures.below in omega arith
+pub overflow_cast-starts : goal.overflow_cast-starts
+overflow_cast-starts c = let f = few_pairs c.args.words.now c.args.counts c.requires.listing c.loop-row.row c.pass-passed.result c.pass-passed.ensures.below in omega arith
 
 pub loop-row-preserved : goal.loop-row-preserved
 loop-row-preserved c = (

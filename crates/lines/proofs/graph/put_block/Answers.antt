@@ -4,17 +4,17 @@ use Rattle.lines.proofs.graph.put_block.Goals as goal
 use Rattle.sets.specs.declared.Set.{Set}
 use Rattle.std.proofs.Common.{ap, arith, rules}
 
-pub put-decimal-number-end-requires : goal.put-decimal-number-end-requires
-put-decimal-number-end-requires c = search (rules, length_decimal_number)
+pub put_decimal-number_end-requires : goal.put_decimal-number_end-requires
+put_decimal-number_end-requires c = search (rules, length_decimal_number)
 
-pub put-text-tags-start-requires : goal.put-text-tags-start-requires
-put-text-tags-start-requires c = search (rules, length_decimal_number)
+pub put_text-tags_start-requires : goal.put_text-tags_start-requires
+put_text-tags_start-requires c = search (rules, length_decimal_number)
 
-pub put-tags-tags-end-requires : goal.put-tags-tags-end-requires
-put-tags-tags-end-requires c = search (rules, length_decimal_number)
+pub put_tags-tags_end-requires : goal.put_tags-tags_end-requires
+put_tags-tags_end-requires c = search (rules, length_decimal_number)
 
-pub put-text-requires : goal.put-text-requires
-put-text-requires c =
+pub put_text-requires : goal.put_text-requires
+put_text-requires c =
     let number = length_decimal_number c.args.number (omega arith) in
     let tags = length_tags 24 c.tags.result.0 (omega arith) in
     omega arith
@@ -22,4 +22,4 @@ put-text-requires c =
 pub returns : goal.returns
 returns c =
     wrote_block c.args.number c.args.word.0 c.tags.result.0 (ap (λ (s : Set). s.0) c.tags.ensures)
-    c.put-text-name-end.ensures c.put-decimal-number-end.ensures c.put-text-tags-start.ensures c.put-tags-tags-end.ensures c.put-text.ensures
+    c.put_text-name_end.ensures c.put_decimal-number_end.ensures c.put_text-tags_start.ensures c.put_tags-tags_end.ensures c.put_text.ensures

@@ -7,12 +7,12 @@ pub returns-then-not-has : goal.returns-then-not-has
 returns-then-not-has c =
     wrote_absent c.args.out.now c.args.at c.args.tags.0 c.args.tag (sym c.has.ensures ∙ c.if-not-has.true)
 
-pub put-decimal-requires : goal.put-decimal-requires
-put-decimal-requires c =
+pub put_decimal-requires : goal.put_decimal-requires
+put_decimal-requires c =
     let two = length-decimal-le 2 c.args.tag (omega arith) (omega arith) (omega arith) in
-    omega (arith, two, c.put-text-end.ensures.place)
+    omega (arith, two, c.put_text-end.ensures.place)
 
 pub returns : goal.returns
 returns c =
     let inside : c.args.at ≤ length c.args.out.now = omega arith in
-    wrote_present c.args.tags.0 c.args.tag (sym c.has.ensures ∙ c.if-not-has.false) inside c.put-text-end.ensures c.put-decimal.ensures
+    wrote_present c.args.tags.0 c.args.tag (sym c.has.ensures ∙ c.if-not-has.false) inside c.put_text-end.ensures c.put_decimal.ensures

@@ -5,22 +5,22 @@ use Rattle.listing.specs.Files.{read_answer}
 use Rattle.listing.proofs.Files.{verdict_from_fault, front_is_words, verdict_from_words}
 use Rattle.listing.proofs.file.check_file.Goals as goal
 
-pub returns-in-err-words : goal.returns-in-err-words
-returns-in-err-words c =
-    let p = err_from_is_err_and c.from-residual.result c.from-residual.ensures.1 in
-    let fault = sym c.in-err-words.was ∙ c.read-words.ensures.answer in
+pub returns-in_err-words : goal.returns-in_err-words
+returns-in_err-words c =
+    let p = err_from_is_err_and c.from_residual.result c.from_residual.ensures.1 in
+    let fault = sym c.in_err-words.was ∙ c.read_words.ensures.answer in
     record {
-      answer = p.1 ∙ ap Err p.2 ∙ sym (verdict_from_fault c.args.bytes.now c.in-err-words.field-0.0 fault);
-      left = c.read-words.ensures.left;
+      answer = p.1 ∙ ap Err p.2 ∙ sym (verdict_from_fault c.args.bytes.now c.in_err-words.field-0.0 fault);
+      left = c.read_words.ensures.left;
     }
 
 pub returns : goal.returns
 returns c =
     let bs = c.args.bytes.now in
-    let n = c.in-ok-words.words in
-    let read = sym c.in-ok-words.was ∙ c.read-words.ensures.answer in
-    let words = ap (lib.ListN.take (Prim.Native.Nat.◌-◌ n 0)) c.read-words.ensures.left ∙ front_is_words bs c.args.memory.now n read in
+    let n = c.in_ok-words.words in
+    let read = sym c.in_ok-words.was ∙ c.read_words.ensures.answer in
+    let words = ap (lib.ListN.take (Prim.Native.Nat.◌-◌ n 0)) c.read_words.ensures.left ∙ front_is_words bs c.args.memory.now n read in
     record {
       answer = c.check.ensures.answer ∙ ap verdict words ∙ sym (verdict_from_words bs n read);
-      left = c.read-words.ensures.left;
+      left = c.read_words.ensures.left;
     }

@@ -21,8 +21,8 @@ pub loop-i-preserved : goal.loop-i-preserved
 loop-i-preserved c =
     let bs = c.args.bytes.now in
     let words = words_of bs c.min-taken.result c.min-taken.ensures in
-    ap (λ m. lib.ListN.set m c.loop-i.i c.word-at.result) c.loop-i.invariant
-    ∙ words_more bs c.args.memory.now c.loop-i.i c.word-at.result (omega arith) (omega arith) c.word-at.ensures
+    ap (λ m. lib.ListN.set m c.loop-i.i c.word_at.result) c.loop-i.invariant
+    ∙ words_more bs c.args.memory.now c.loop-i.i c.word_at.result (omega arith) (omega arith) c.word_at.ensures
 
 pub returns : goal.returns
 returns c =

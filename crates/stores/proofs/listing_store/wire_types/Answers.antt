@@ -14,7 +14,7 @@ loop-wire-preserved c =
     let es = c.args.wires.now in
     let i = c.loop-wire.wire-index in
     elim c.if-leads.branch [
-      | then-leads w ↦ w.types-is ∙ w.with-types.ensures.value ∙ ap (λ k. added k c.loop-wire.types) w.wire-type.ensures ∙ gathered-with es i c.args.from c.args.to c.loop-wire.types (omega arith) c.loop-wire.invariant (sym c.leads.ensures ∙ w.if-leads.true)
+      | then-leads w ↦ w.types-is ∙ w.with-types.ensures.value ∙ ap (λ k. added k c.loop-wire.types) w.wire_type.ensures ∙ gathered-with es i c.args.from c.args.to c.loop-wire.types (omega arith) c.loop-wire.invariant (sym c.leads.ensures ∙ w.if-leads.true)
       | else-leads w ↦ w.types-is ∙ gathered_skip es i c.args.from c.args.to c.loop-wire.types (omega arith) c.loop-wire.invariant (sym c.leads.ensures ∙ w.if-leads.false)
     ]
 

@@ -10,8 +10,8 @@ returns-then-from-blocks c =
     read_no_pair s.words.now s.listed c.args.from c.args.to
     (⊎_elim (λ l. inl (omega arith)) (λ l. inr (omega arith)) c.then-from-blocks.either)
 
-pub slice-bounds-wire-types-end : goal.slice-bounds-wire-types-end
-slice-bounds-wire-types-end c =
+pub slice_bounds-wire_types-end : goal.slice_bounds-wire_types-end
+slice_bounds-wire_types-end c =
     let s = c.args.self.now in
     let e = s.blocks in
     let f = s.wires in
@@ -22,5 +22,5 @@ slice-bounds-wire-types-end c =
 pub returns : goal.returns
 returns c =
     let s = c.args.self.now in
-    ap Some c.wire-types.ensures
+    ap Some c.wire_types.ensures
     ∙ read_pair s.words.now s.listed c.args.from c.args.to s.counts.blocks s.counts.wires s.blocks s.wires c.if-from-blocks.false c.if-to-blocks.false

@@ -10,20 +10,20 @@ returns-then-from-count g c =
     let s = c.args.self.now in
     sym (pair_absent (row_graph s.starts.now s.entries.now s.labels.now) c.args.from c.args.to (⊎_elim inl (λ l. inr l.1) c.then-from-count.either))
 
-pub slice-bounds-entry-types-count : goal.slice-bounds-entry-types-count
-slice-bounds-entry-types-count g c =
+pub slice_bounds-entry_types-count : goal.slice_bounds-entry_types-count
+slice_bounds-entry_types-count g c =
     let s = c.args.self.now in
     let b = row_bounds s.starts.now s.entries.now (length s.labels.now) c.args.from s.rows c.if-from-count.false in
     search rules
 
-pub slice-bounds-entry-types-start : goal.slice-bounds-entry-types-start
-slice-bounds-entry-types-start g c =
+pub slice_bounds-entry_types-start : goal.slice_bounds-entry_types-start
+slice_bounds-entry_types-start g c =
     let s = c.args.self.now in
     let b = row_bounds s.starts.now s.entries.now (length s.labels.now) c.args.from s.rows c.if-from-count.false in
     search rules
 
-pub slice-bounds-entry-types-end : goal.slice-bounds-entry-types-end
-slice-bounds-entry-types-end g c =
+pub slice_bounds-entry_types-end : goal.slice_bounds-entry_types-end
+slice_bounds-entry_types-end g c =
     let s = c.args.self.now in
     let b = row_bounds s.starts.now s.entries.now (length s.labels.now) c.args.from s.rows c.if-from-count.false in
     search rules
@@ -32,5 +32,5 @@ pub returns : goal.returns
 unfolding row_graph
 returns g c =
     let s = c.args.self.now in
-    ap Some c.entry-types.ensures
+    ap Some c.entry_types.ensures
     ∙ sym (pair_there (row_graph s.starts.now s.entries.now s.labels.now) c.args.from c.args.to c.if-from-count.false c.if-to-count.false)
