@@ -1,5 +1,5 @@
 // Tests that run the code: each refusal at its edges, and the lines.
 mod checks;
 mod files;
-mod stores;
+mod store_answers;
 mod texts;
