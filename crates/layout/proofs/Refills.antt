@@ -1,21 +1,21 @@
 -- The layout of a graph, read as the rows of a row store, is the graph again.
-use Rattle.std.proofs.Common.{◌≡◌, ℕ, zero, suc, ◌+◌, ◌-◌, ◌^◌, ◌<◌, ◌≤◌, Bool, true, false, cond, ◌&&◌, ◌||◌, eqb, ltb, leb, ◌⊎◌, List, [], ◌∷◌, ◌++◌, map, length, get_or, take, drop, Some, None, Ok, Err, sym, refl, ap, ◌∙◌, subst, ap₂, inl, inr, ⊎_elim, add-zero, zero-add, add-one, arith}
+use Rattle.std.proofs.Common.{◌≡◌, ℕ, zero, suc, ◌+◌, ◌-◌, ◌^◌, ◌<◌, ◌≤◌, Bool, true, false, cond, ◌&&◌, ◌||◌, eqb, ltb, List, [], ◌∷◌, ◌++◌, length, get_or, take, drop, Some, None, Ok, sym, refl, ap, ◌∙◌, subst, ap₂, ⊎_elim, add-zero, zero-add, arith}
 use Rattle.std.specs.List.{range_with_len, flat_map}
-use Rattle.std.proofs.lemmas.List.{length-append, append_assoc, take_at, drop_at}
+use Rattle.std.proofs.lemmas.List.{length-append, take_at, drop_at}
 use Rattle.std.proofs.lemmas.List.FromFn.{length-map-range_with_len, get_or-map-range_with_len}
-use Rattle.std.proofs.lemmas.Bool.{cond-true, cond-false, le-leb, lt-ltb, eq-eqb, ne_eqb, eqb-true, and_from, and_left, and_right, cases_order, and_parts, ltb-true}
-use Rattle.model.specs.Graphs.{Graph, block_count, label_at, pair_at, SameMeaning}
-use Rattle.sets.specs.Sets.{has, set, set_of, every_below}
+use Rattle.std.proofs.lemmas.Bool.{cond-true, le-leb, lt-ltb, eq-eqb, ne_eqb, eqb-true, and_from, and_left, and_right, cases_order, and_parts, ltb-true}
+use Rattle.model.specs.Graphs.{Graph, block_count, SameMeaning}
+use Rattle.sets.specs.Sets.{has, set}
 use Rattle.sets.specs.declared.Set.{Set}
 use Rattle.sets.proofs.Membership.{has_nothing, word_is, set_of_lt, or_nothing}
 use Rattle.listing.specs.declared.counts.Counts.{Counts}
-use Rattle.listing.specs.Listings.{Listing, counts_of}
+use Rattle.listing.specs.Listings.{Listing}
 use Rattle.listing.specs.Graphs.{wired, stated}
 use Rattle.listing.proofs.Accepts.{ranges}
 use Rattle.listing.proofs.Parts.{length_tags}
 use Rattle.layout.specs.Refills.{Refilled}
 use Rattle.stores.specs.declared.entry.Entry.{Entry}
-use Rattle.stores.specs.RowStores.{row_entries, lists, any_entry, pair_set, row_graph, sizes_fit, never_falls, starts_fit, targets_fit, fill_answer}
+use Rattle.stores.specs.RowStores.{row_entries, any_entry, pair_set, row_graph, sizes_fit, never_falls, starts_fit, targets_fit, fill_answer}
 use Rattle.layout.specs.Layouts.{entry, cell_of, row_of, entries_of, start_of, starts_of, laid}
 use Rattle.stores.proofs.RowStores.{any_entry_append}
 use Rattle.layout.proofs.Joins.{joined_split}

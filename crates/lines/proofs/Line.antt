@@ -1,5 +1,5 @@
 -- How long the parts of a line are, and what a line written from the start leaves.
-use Rattle.std.proofs.Common.{◌≡◌, ℕ, ◌+◌, ◌^◌, ◌<◌, ◌≤◌, ltb, List, ◌++◌, length, drop, Ok, codes, decimal, sym, refl, ap, ◌∙◌, subst, zero-add, arith}
+use Rattle.std.proofs.Common.{◌≡◌, ℕ, ◌^◌, ◌<◌, ◌≤◌, ltb, List, ◌++◌, length, drop, Ok, codes, decimal, sym, refl, ap, ◌∙◌, subst, zero-add, arith}
 use Rattle.lines.specs.Lines.{Wrote, line_answer, line_left, number_line, role_word, written}
 use Rattle.lines.specs.declared.role.Role.{Role}
 use Rattle.lines.specs.declared.role.Role.TheVariants.{Pattern, Program}

@@ -1,14 +1,13 @@
 -- The check accepts exactly the listings: where no fault fits, each word is what it has to be, and the other way round.
-use Rattle.std.proofs.Common.{◌≡◌, ℕ, zero, suc, ◌+◌, ◌-◌, ◌<◌, ◌≤◌, Bool, true, false, cond, not, ◌&&◌, ◌||◌, eqb, ltb, leb, ◌⊎◌, List, [], ◌∷◌, ◌++◌, length, Some, None, Ok, Err, Option, Result, sym, refl, ap, ◌∙◌, subst, inl, inr, ⊎_elim, arith}
+use Rattle.std.proofs.Common.{◌≡◌, ℕ, zero, suc, ◌+◌, ◌-◌, ◌<◌, ◌≤◌, Bool, true, false, not, ◌&&◌, eqb, ltb, leb, ◌⊎◌, List, [], ◌∷◌, ◌++◌, length, Ok, sym, refl, ap, ◌∙◌, subst, inl, inr, ⊎_elim, arith}
 use Rattle.std.specs.List.{range_with_len, flat_map, AllByRecursion as All}
 use Rattle.std.proofs.lemmas.Bool.{ltb-true, leb-true, leb-false, lt-ltb, le-leb, eq-eqb, lt-leb, le-ltb, eqb-true, not-false, and_parts, and_from, not_from_true, or_from, both_ways, cases_order}
-use Rattle.std.proofs.ByRecursion.{All-append}
 use Rattle.listing.specs.declared.counts.Counts.{Counts}
 use Rattle.listing.specs.declared.fault.Fault.{Fault}
 use Rattle.listing.specs.declared.fault.Fault.TheVariants.{WordCount, Opening, Total, Block, Wire, Rise, Closing, PartialWord}
-use Rattle.listing.specs.Words.{is_opening, is_block, is_wire, is_closing}
+use Rattle.listing.specs.Words.{is_block, is_wire, is_closing}
 use Rattle.listing.specs.Listings.{Listing, word, counts_of}
-use Rattle.listing.specs.Faults.{at, fits, opening_faults, faults_at, ranked, first_that, answered, verdict}
+use Rattle.listing.specs.Faults.{fits, faults_at, ranked, first_that, answered, verdict}
 use Rattle.listing.specs.Checks.{Accepts}
 use Rattle.listing.proofs.Verdicts.{none_all, all_none, answered_none}
 

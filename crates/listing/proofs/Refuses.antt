@@ -1,12 +1,12 @@
 -- The check refuses with exactly the first fault: the one at the lowest place, and there with the lowest number.
-use Rattle.std.proofs.Common.{◌≡◌, ℕ, zero, suc, ◌+◌, ◌-◌, ◌<◌, ◌≤◌, Bool, true, false, cond, eqb, ◌⊎◌, List, [], ◌∷◌, ◌++◌, length, Some, None, Ok, Err, Option, Result, sym, refl, ap, ◌∙◌, subst, inl, inr, ⊎_elim, arith}
+use Rattle.std.proofs.Common.{◌≡◌, ℕ, zero, suc, ◌+◌, ◌-◌, ◌<◌, ◌≤◌, Bool, true, false, cond, eqb, List, [], ◌∷◌, length, Some, None, Ok, Err, Option, Result, sym, refl, ap, ◌∙◌, subst, inl, inr, ⊎_elim, arith}
 use Rattle.std.specs.List.{range_with_len, flat_map, AllByRecursion as All}
 use Rattle.std.proofs.lemmas.Bool.{both_ways, cases_order, ltb-true, eqb-true, and_parts}
 use Rattle.listing.specs.declared.counts.Counts.{Counts}
 use Rattle.listing.specs.declared.fault.Fault.{Fault}
 use Rattle.listing.specs.declared.fault.Fault.TheVariants.{WordCount, Opening, Total, Block, Wire, Rise, Closing, PartialWord}
-use Rattle.listing.specs.Listings.{Listing, counts_of}
-use Rattle.listing.specs.Faults.{at, fits, number_of, place_of, Before, FirstFault, opening_faults, faults_at, ranked, first_that, answered, verdict}
+use Rattle.listing.specs.Listings.{counts_of}
+use Rattle.listing.specs.Faults.{at, fits, number_of, place_of, Before, FirstFault, opening_faults, faults_at, ranked, first_that, verdict}
 use Rattle.listing.specs.Checks.{Refuses}
 use Rattle.listing.proofs.Verdicts.{first_that_skip, first_that_found, none_all, answered_some}
 use Rattle.listing.proofs.Accepts.{no_fault, accepts}

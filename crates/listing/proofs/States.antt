@@ -1,10 +1,10 @@
 -- What the graph that a listing states holds, in terms of its words.
-use Rattle.std.proofs.Common.{◌≡◌, ℕ, ◌+◌, ◌<◌, ◌≤◌, Bool, true, ◌&&◌, eqb, List, map, length, get_or, sym, refl, ap, ◌∙◌, subst, ⊎_elim, arith}
+use Rattle.std.proofs.Common.{◌≡◌, ℕ, ◌<◌, true, ◌&&◌, eqb, List, sym, ap, ◌∙◌, subst, ⊎_elim, arith}
 use Rattle.std.proofs.lemmas.Bool.{and_parts, and_from, eqb-true, eq-eqb, both_ways, cases_lt}
 use Rattle.std.proofs.lemmas.Nat.{mod_below}
 use Rattle.listing.specs.declared.counts.Counts.{Counts}
 use Rattle.listing.specs.Words.{wire_from, wire_to, wire_type}
-use Rattle.listing.specs.Listings.{Listing, word, counts_of, wire_words}
+use Rattle.listing.specs.Listings.{Listing, counts_of, wire_words}
 use Rattle.sets.specs.Sets.{has, set_of, Member}
 use Rattle.listing.specs.Graphs.{runs, wired, type_set, stated}
 use Rattle.listing.specs.Checks.{wire_word, Laid, States}

@@ -1,14 +1,14 @@
 -- No graph has two listings.
-use Rattle.std.proofs.Common.{◌≡◌, ℕ, ◌+◌, ◌-◌, ◌*◌, ◌<◌, ◌≤◌, Bool, true, ◌⊎◌, List, map, length, get_or, Some, sym, refl, ap, ◌∙◌, subst, ap₂, inl, inr, ⊎_elim, arith}
+use Rattle.std.proofs.Common.{◌≡◌, ℕ, ◌+◌, ◌-◌, ◌<◌, true, List, map, length, get_or, Some, sym, refl, ap, ◌∙◌, subst, ⊎_elim, arith}
 use Rattle.std.proofs.lemmas.List.{ext_get_or}
 use Rattle.std.proofs.lemmas.Bool.{cases_lt, cases_eq}
 use Rattle.listing.specs.declared.counts.Counts.{Counts}
-use Rattle.listing.specs.Words.{opening_blocks, opening_wires, block_tags, wire_from, wire_to, wire_type, is_wire}
+use Rattle.listing.specs.Words.{block_tags, wire_from, wire_to, wire_type, is_wire}
 use Rattle.listing.specs.Listings.{Listing, word, counts_of, wire_words, block_words}
-use Rattle.sets.specs.Sets.{has, set, set_of}
+use Rattle.sets.specs.Sets.{has}
 use Rattle.sets.specs.declared.Set.{Set}
 use Rattle.std.specs.List.{slice_get}
-use Rattle.listing.specs.Graphs.{runs, wired, tag_set, type_set, stated, SameGraph}
+use Rattle.listing.specs.Graphs.{runs, tag_set, type_set, stated, SameGraph}
 use Rattle.listing.specs.Checks.{OnlyListing}
 use Rattle.listing.proofs.Fields.{opening_is, block_is, wire_is, wire_ends, closing_is}
 use Rattle.listing.proofs.Rising.{In, any_in, in_all, same_rising}

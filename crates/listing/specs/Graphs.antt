@@ -9,7 +9,7 @@
 --   tag_set w          the tag set of a block word
 --   type_set ws u v    the set of the types of the wires from u to v
 --   SameGraph g h     the same count, the same tag set at each block, the same type set at each pair of blocks
-use Rattle.std.specs.Prelude.{◌≡◌, ℕ, ◌<◌, Bool, true, false, ◌&&◌, ◌||◌, List, [], ◌∷◌, map, length, ◌==◌}
+use Rattle.std.specs.Prelude.{◌≡◌, ℕ, ◌<◌, Bool, false, ◌&&◌, ◌||◌, List, [], ◌∷◌, map, ◌==◌}
 use Rattle.listing.specs.Words.{block_tags, wire_from, wire_to, wire_type}
 use Rattle.listing.specs.Listings.{block_words, wire_words}
 use Rattle.model.specs.Graphs.{Graph, block_count}

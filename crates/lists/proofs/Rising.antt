@@ -1,6 +1,6 @@
 -- Lists that rise in a relation: one list for each set.
-use Rattle.std.proofs.Common.{◌≡◌, Bool, true, false, cond, ◌⊎◌, List, [], ◌∷◌, ◌++◌, map, filter, sym, refl, ap, ◌∙◌, subst, ap₂, inl, inr, ⊎_elim}
-use Rattle.std.specs.List.{flat_map, AllByRecursion as All}
+use Rattle.std.proofs.Common.{◌≡◌, Bool, true, false, cond, ◌⊎◌, List, [], ◌∷◌, ◌++◌, map, filter, sym, refl, ◌∙◌, subst, ap₂, inl, inr}
+use Rattle.std.specs.List.{flat_map}
 use Rattle.std.proofs.ByRecursion.{All-append, all_kept_by}
 use Rattle.lists.specs.Members.{In, Within, Distinct, Rising}
 use Rattle.lists.proofs.Members.{in_all, all_in, map_in, joined_in}

@@ -5,7 +5,7 @@
 --   Distinct xs    no member of xs stands in it twice
 --   Rising R xs    each member of xs stands in the relation R to all that follow it
 --   any_of t xs     the test t passes at one of xs
-use Rattle.std.specs.Prelude.{◌≡◌, ℕ, Bool, false, ◌||◌, ◌⊎◌, List, [], ◌∷◌}
+use Rattle.std.specs.Prelude.{◌≡◌, Bool, false, ◌||◌, ◌⊎◌, List, [], ◌∷◌}
 use Rattle.std.specs.List.{AllByRecursion as All}
 
 abbrev pub In : {X : Type 0} → X → List X → Type 0

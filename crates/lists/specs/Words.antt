@@ -4,7 +4,7 @@
 --   lower u v       the test of that
 --   words k n       all words of k letters below n, the lowest first
 --   FirstDifference u v   the first letter in which u and v differ: the words agree before it, and that of u is the lower
-use Rattle.std.specs.Prelude.{◌≡◌, ℕ, zero, suc, ◌<◌, Bool, true, false, ◌&&◌, ◌||◌, ◌⊎◌, List, [], ◌∷◌, map, length, ◌==◌, nat_lt, slice_index, slice_index_or}
+use Rattle.std.specs.Prelude.{◌≡◌, ℕ, zero, suc, ◌<◌, Bool, false, ◌&&◌, ◌||◌, ◌⊎◌, List, [], ◌∷◌, map, length, ◌==◌, nat_lt, slice_index, slice_index_or}
 use Rattle.std.specs.List.{range_with_len, flat_map}
 
 abbrev pub Lower : List ℕ → List ℕ → Type 0

@@ -1,13 +1,12 @@
 -- Embeddings under subset rules are monomorphisms of multigraphs, and automorphisms are their symmetries.
-use Rattle.std.proofs.Common.{◌≡◌, ℕ, ◌<◌, Bool, true, false, List, get_or, Some, sym, refl, ap, ◌∙◌, subst, arith}
-use Rattle.model.specs.Graphs.{Graph, block_count, label_at, pair_at}
-use Rattle.model.specs.Instances.{Injective, Embedding, Automorphism}
-use Rattle.model.specs.Tasks.{instance_of, Placing, Renumbering}
+use Rattle.std.proofs.Common.{◌≡◌, ℕ, true, List, get_or, Some, sym, ◌∙◌, subst}
+use Rattle.model.specs.Graphs.{Graph}
+use Rattle.model.specs.Tasks.{Placing, Renumbering}
 use Rattle.model.proofs.Meanings.{slice_get_some, slice_get-below, pair_there, pair_below, meant}
 use Rattle.sets.specs.Sets.{has, Member, is_subset, same_set}
 use Rattle.sets.specs.declared.Set.{Set}
 use Rattle.sets.proofs.Membership.{one_test, decides_subset, decides_same}
-use Rattle.rules.specs.Multigraphs.{Tagged, Edge, Monomorphism, Symmetry, SubMultigraphs}
+use Rattle.rules.specs.Multigraphs.{Monomorphism, Symmetry, SubMultigraphs}
 
 -- a label that is there is one
 one_label : {s t : Set} → Some s ≡ Some t → s ≡ t

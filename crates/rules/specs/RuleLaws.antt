@@ -1,11 +1,9 @@
 -- The laws of the three rules.
-use Rattle.std.specs.Prelude.{◌≡◌, ℕ, Bool, true, false, ◌&&◌, eqb, leb, ℤ, pos, negsuc, refl}
-use Rattle.std.proofs.Common.{sym, ap, ap₂, ◌∙◌, arith}
-use Rattle.std.specs.Int.Signed.{le_z}
+use Rattle.std.specs.Prelude.{◌≡◌, true, false, ℤ, pos, negsuc, refl}
+use Rattle.std.proofs.Common.{sym, ap, ◌∙◌}
 use Rattle.std.proofs.lemmas.Bool.{and_parts, and_from, eqb-true, eq-eqb, both_ways}
-use Rattle.std.proofs.lemmas.Bool.Decides.{same_from_decides}
 use Rattle.model.specs.Rules.{Laws}
-use Rattle.sets.specs.Sets.{has, Member, is_subset, same_set}
+use Rattle.sets.specs.Sets.{is_subset, same_set}
 use Rattle.sets.specs.declared.Set.{Set}
 use Rattle.sets.proofs.Membership.{one_test, decides_subset, decides_same}
 use Rattle.rules.specs.Bands.{same_number, in_band, same_band}

@@ -1,6 +1,5 @@
 -- What the words of a listing store are good for: its questions index within them.
-use Rattle.std.proofs.Common.{◌≡◌, ℕ, ◌+◌, ◌-◌, ◌<◌, ◌≤◌, Bool, true, false, cond, ◌&&◌, ◌||◌, eqb, ◌⊎◌, List, [], ◌∷◌, ◌++◌, map, length, get_or, take, drop, is_ok, Some, None, Ok, Err, Result, sym, refl, ap, ◌∙◌, subst, ap₂, inl, inr, ⊎_elim, zero-add, arith}
-use Rattle.std.specs.List.{slice_get}
+use Rattle.std.proofs.Common.{◌≡◌, ℕ, ◌+◌, ◌-◌, ◌<◌, ◌≤◌, Bool, true, false, ◌||◌, eqb, ◌⊎◌, List, [], ◌∷◌, ◌++◌, map, length, get_or, take, drop, is_ok, Some, None, Ok, Err, Result, sym, refl, ap, ◌∙◌, subst, ap₂, inl, inr, ⊎_elim, zero-add, arith}
 use Rattle.std.proofs.lemmas.List.{nil_from_length, take_more}
 use Rattle.std.proofs.lemmas.Option.{slice_get_past, slice_get-get_or}
 use Rattle.std.proofs.lemmas.Bool.{or_left, or_cases, eqb-true, eq-eqb, both_ways, cases_Bool, and_parts, and_from}
@@ -9,16 +8,16 @@ use Rattle.listing.specs.declared.counts.Counts.{Counts}
 use Rattle.listing.specs.declared.fault.Fault.{Fault}
 use Rattle.listing.specs.Listings.{Listing, word, counts_of, block_words, wire_words}
 use Rattle.listing.specs.Faults.{verdict}
-use Rattle.listing.specs.Graphs.{any_of, leads, runs, tag_set, type_set, stated}
+use Rattle.listing.specs.Graphs.{any_of, leads, runs, tag_set, stated}
 use Rattle.listing.specs.Words.{wire_from, wire_to, wire_type}
-use Rattle.sets.specs.Sets.{has, set, set_of, added}
+use Rattle.sets.specs.Sets.{has, set, added}
 use Rattle.sets.specs.declared.Set.{Set}
 use Rattle.sets.proofs.Membership.{has_nothing, has-set_of, word_is, set_of-alike, or_assoc, or_nothing}
 use lib.Seq.{paste}
 use Rattle.std.proofs.lemmas.List.Edits.{paste_more, paste_all}
 use Rattle.listing.proofs.Accepts.{accepts, ranges}
 use Rattle.listing.proofs.States.{runs_so}
-use Rattle.listing.proofs.Parts.{length_tags, slice_get_tags, length-wire_words}
+use Rattle.listing.proofs.Parts.{length_tags, slice_get_tags}
 use Rattle.model.specs.Graphs.{block_count, label_at, pair_at}
 use Rattle.model.proofs.Meanings.{pair_there, pair_absent}
 use Rattle.stores.specs.ListingStores.{is_read, gathered}

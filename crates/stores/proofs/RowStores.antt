@@ -1,12 +1,12 @@
 -- What the fields of a filled row store say, and how its tests and unions go step by step.
-use Rattle.std.proofs.Common.{◌≡◌, ℕ, zero, suc, ◌+◌, ◌-◌, ◌^◌, ◌<◌, ◌≤◌, Bool, true, false, cond, not, ◌&&◌, ◌||◌, eqb, ltb, leb, ◌⊎◌, List, [], ◌∷◌, ◌++◌, length, get_or, take, drop, sym, refl, ap, ◌∙◌, subst, ap₂, inl, inr, ⊎_elim, add-one, arith}
+use Rattle.std.proofs.Common.{◌≡◌, ℕ, zero, suc, ◌+◌, ◌<◌, ◌≤◌, true, false, ◌&&◌, ◌||◌, eqb, leb, List, [], ◌∷◌, ◌++◌, length, get_or, take, drop, sym, refl, ap, ◌∙◌, subst, ⊎_elim, add-one, arith}
 use Rattle.std.proofs.lemmas.List.{take_more, drop_more, drop_all}
 use Rattle.std.proofs.lemmas.Bool.{leb-true, le-leb, lt-leb, le-ltb, lt-ltb, and_parts, and_from, and_left, and_right, eqb-true, ne_eqb, eq-eqb, cases_order}
-use Rattle.sets.specs.Sets.{has, set, set_of, every_below, joined}
+use Rattle.sets.specs.Sets.{has, set, joined}
 use Rattle.sets.specs.declared.Set.{Set}
 use Rattle.sets.proofs.Membership.{has_nothing, has-set_of, word_is, set_of-alike, or_assoc, or_nothing}
 use Rattle.stores.specs.declared.entry.Entry.{Entry}
-use Rattle.stores.specs.RowStores.{row_entries, lists, any_entry, pair_set, row_graph, sizes_fit, never_falls, starts_fit, targets_fit}
+use Rattle.stores.specs.RowStores.{lists, any_entry, pair_set, never_falls, starts_fit, targets_fit}
 
 -- ---- starts that never fall
 pub never_more : (starts : List ℕ) (n : ℕ) → get_or starts n 0 ≤ get_or starts (n + 1) 0 → never_falls starts n ≡ true → never_falls starts (n + 1) ≡ true

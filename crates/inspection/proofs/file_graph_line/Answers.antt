@@ -1,4 +1,4 @@
-use Rattle.std.proofs.Common.{◌≡◌, ◌+◌, ◌-◌, ◌≤◌, length, take, sym, ap, ◌∙◌, arith, rules}
+use Rattle.std.proofs.Common.{◌≡◌, ◌+◌, ◌-◌, take, sym, ap, ◌∙◌, arith, rules}
 use Rattle.lines.specs.GraphLines.{graph_line, line_length, line_over}
 use Rattle.inspection.specs.Printouts.{file_graph_line}
 use Rattle.inspection.proofs.Printouts.{no_line_of_fault, line_of_graph, words_in_front, words_few}

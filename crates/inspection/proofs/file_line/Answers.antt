@@ -1,4 +1,4 @@
-use Rattle.std.proofs.Common.{◌≡◌, sym, ap, ◌∙◌}
+use Rattle.std.proofs.Common.{sym, ap, ◌∙◌}
 use Rattle.lines.specs.Lines.{line_answer, line_left}
 use Rattle.inspection.proofs.Printouts.{line_of_counts, line_of_fault}
 use Rattle.inspection.proofs.file_line.Goals as goal

@@ -1,9 +1,9 @@
-use Rattle.std.proofs.Common.{◌≡◌, ◌<◌, true, false, not, length, is_some, Ok, Err, sym, refl, ap, ◌∙◌, arith, rules}
+use Rattle.std.proofs.Common.{◌≡◌, false, is_some, Ok, Err, sym, refl, ap, ◌∙◌, arith}
 use Rattle.std.proofs.lemmas.Result.{err_from_is_err_and}
 use Rattle.std.proofs.lemmas.Bool.{not-true, not-false}
 use Rattle.listing.specs.Faults.{Inside, fits, opening_faults, faults_at, first_that, answered}
 use Rattle.listing.specs.Listings.{counts_of}
-use Rattle.listing.proofs.Verdicts.{first_from, first_from_end, first_from_next, first_from_found, answered_some, verdict-at_opening, verdict-after, Opened, opened}
+use Rattle.listing.proofs.Verdicts.{first_from_end, first_from_next, first_from_found, answered_some, verdict-at_opening, verdict-after, Opened, opened}
 use Rattle.listing.proofs.Checked.{checked}
 use Rattle.listing.proofs.check.check.Goals as goal
 use Rattle.listing.proofs.check.check.Goals.{In_ok-counts, Else-place-words}

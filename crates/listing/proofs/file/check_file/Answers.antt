@@ -1,7 +1,6 @@
-use Rattle.std.proofs.Common.{◌≡◌, Err, sym, ap, ◌∙◌}
+use Rattle.std.proofs.Common.{Err, sym, ap, ◌∙◌}
 use Rattle.std.proofs.lemmas.Result.{err_from_is_err_and}
 use Rattle.listing.specs.Faults.{verdict}
-use Rattle.listing.specs.Files.{read_answer}
 use Rattle.listing.proofs.Files.{verdict_from_fault, front_is_words, verdict_from_words}
 use Rattle.listing.proofs.file.check_file.Goals as goal
 

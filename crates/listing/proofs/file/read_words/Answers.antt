@@ -1,8 +1,8 @@
-use Rattle.std.proofs.Common.{◌≡◌, ◌/◌, ◌<◌, ◌≤◌, true, false, length, Ok, Err, sym, ap, ◌∙◌, arith}
+use Rattle.std.proofs.Common.{Ok, Err, sym, ap, ◌∙◌, arith}
 use Rattle.std.proofs.lemmas.Bool.{cond-true, cond-false}
 use Rattle.listing.specs.declared.fault.Fault.TheVariants.{PartialWord}
 use Rattle.listing.specs.Faults.{at}
-use Rattle.listing.specs.Files.{is_whole, whole_words}
+use Rattle.listing.specs.Files.{is_whole}
 use Rattle.listing.proofs.Files.{words_of, whole_from, broken_from, words_more, words_all}
 use Rattle.listing.proofs.file.read_words.Goals as goal
 

@@ -1,4 +1,4 @@
-use Rattle.std.proofs.Common.{sym, arith}
+use Rattle.std.proofs.Common.{arith}
 use Rattle.std.proofs.lemmas.Bool.Decides.{Decides-at}
 use Rattle.sets.proofs.Membership.{subset_word, decides_subset}
 use Rattle.sets.proofs.Set.is_subset.Goals as goal

@@ -1,4 +1,4 @@
-use Rattle.std.proofs.Common.{◌≡◌, ◌^◌, eqb, sym, ap, ◌∙◌, arith}
+use Rattle.std.proofs.Common.{◌^◌, eqb, sym, ap, ◌∙◌, arith}
 use lib.Bits.{bit_or, or_lt}
 use Rattle.std.proofs.lemmas.Nat.{one_shl, pow_below}
 use Rattle.std.proofs.lemmas.Bool.{ne_eqb}

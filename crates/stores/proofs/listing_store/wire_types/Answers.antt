@@ -1,4 +1,4 @@
-use Rattle.std.proofs.Common.{◌≡◌, length, sym, ap, ◌∙◌, arith}
+use Rattle.std.proofs.Common.{sym, ap, ◌∙◌, arith}
 use Rattle.std.proofs.lemmas.List.{take_all}
 use Rattle.stores.specs.ListingStores.{gathered}
 use Rattle.stores.proofs.ListingStores.{gathered_none, gathered-with, gathered_skip}

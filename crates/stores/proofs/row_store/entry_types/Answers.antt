@@ -1,4 +1,4 @@
-use Rattle.std.proofs.Common.{◌≡◌, sym, ap, ◌∙◌}
+use Rattle.std.proofs.Common.{ap, ◌∙◌}
 use Rattle.std.proofs.lemmas.List.{take_all}
 use Rattle.stores.specs.RowStores.{pair_set}
 use Rattle.stores.proofs.RowStores.{union_none, union_with, union_skip}

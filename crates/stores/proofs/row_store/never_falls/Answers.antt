@@ -1,4 +1,4 @@
-use Rattle.std.proofs.Common.{sym, refl, ◌∙◌, arith, rules}
+use Rattle.std.proofs.Common.{sym, refl, arith, rules}
 use Rattle.stores.proofs.RowStores.{never_more, never_stops}
 use Rattle.stores.proofs.row_store.never_falls.Goals as goal
 

@@ -1,4 +1,4 @@
-use Rattle.std.proofs.Common.{◌≡◌, ◌≤◌, is_some, sym, ap, ◌∙◌, arith, rules}
+use Rattle.std.proofs.Common.{is_some, sym, ap, ◌∙◌, arith}
 use Rattle.stores.proofs.ListingStores.{read_count, read_few, read_label, labels_more, labels_all}
 use Rattle.stores.proofs.listing_store.ListingStore.write_labels.Goals as goal
 

@@ -1,4 +1,4 @@
-use Rattle.std.proofs.Common.{◌≡◌, ◌+◌, ◌<◌, ◌≤◌, Some, sym, ap, ◌∙◌, arith}
+use Rattle.std.proofs.Common.{Some, sym, ap, ◌∙◌, arith}
 use Rattle.stores.proofs.ListingStores.{read_within, read_label, read_no_label}
 use Rattle.stores.proofs.listing_store.ListingStoreStore.label.Goals as goal
 

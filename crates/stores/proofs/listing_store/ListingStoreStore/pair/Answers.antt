@@ -1,5 +1,4 @@
-use Rattle.std.proofs.Common.{◌≡◌, ◌+◌, ◌-◌, ◌<◌, ◌≤◌, length, Some, sym, ap, ◌∙◌, inl, inr, ⊎_elim, arith, rules}
-use Rattle.stores.specs.ListingStores.{gathered}
+use Rattle.std.proofs.Common.{◌+◌, ◌-◌, ◌≤◌, length, Some, ap, ◌∙◌, inl, inr, ⊎_elim, arith, rules}
 use Rattle.stores.proofs.ListingStores.{read_within, read_pair, read_no_pair}
 use Rattle.stores.proofs.listing_store.ListingStoreStore.pair.Goals as goal
 

@@ -1,7 +1,7 @@
-use Rattle.std.proofs.Common.{◌≡◌, length, Some, sym, ap, ◌∙◌, inl, inr, ⊎_elim, arith, rules}
+use Rattle.std.proofs.Common.{length, Some, sym, ap, ◌∙◌, inl, inr, ⊎_elim, rules}
 use Rattle.model.proofs.Meanings.{pair_there, pair_absent}
 use Rattle.stores.specs.RowStores.{row_graph}
-use Rattle.stores.proofs.RowStores.{RowBounds, row_bounds}
+use Rattle.stores.proofs.RowStores.{row_bounds}
 use Rattle.stores.proofs.row_store.RowStoreStore.pair.Goals as goal
 
 pub returns-then-from-count : goal.returns-then-from-count
