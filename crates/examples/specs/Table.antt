@@ -11,7 +11,7 @@
 --   table         the examples
 --   TableHolds    every example of the table holds
 use Rattle.std.specs.Prelude.{◌≡◌, ℕ, Bool, true, false, List, [], ◌∷◌, ℤ, pos, negsuc, Ok, Err, Result}
-use Rattle.std.specs.List.{AllByRecursion as All}
+use Rattle.std.specs.List.{AllByRecursion}
 use Rattle.refusal.specs.declared.Refusal.{Refusal}
 use Rattle.listing.specs.declared.counts.Counts.{Counts}
 use Rattle.listing.specs.declared.fault.Fault.{Fault}
@@ -77,4 +77,4 @@ table =
     ∷ []
 
 abbrev pub TableHolds : Type 0
-TableHolds = All Holds table
+TableHolds = AllByRecursion Holds table

@@ -8,6 +8,7 @@ use lines::role::Role;
 use listing::file::FILE_BYTES;
 use std::fs::File;
 use std::io::{ErrorKind, Read, Write};
+use std::process::ExitCode;
 use std::{env, io};
 
 // The bytes of a file, no more than are looked at. A missing file is an empty one.
@@ -73,10 +74,10 @@ fn run(rt: &HostRuntime) -> anyhow::Result<()> {
     Ok(())
 }
 
-fn main(rt: HostRuntime) -> anyhow::Result<()> {
-    let result = run(&rt);
-    if let Err(error) = &result {
+fn main(rt: HostRuntime) -> io::Result<ExitCode> {
+    if let Err(error) = run(&rt) {
         eprintln!(rt; "inspect: {error}")?;
+        return Ok(ExitCode::FAILURE);
     }
-    result
+    Ok(ExitCode::SUCCESS)
 }

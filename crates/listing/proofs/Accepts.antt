@@ -1,6 +1,6 @@
 -- The check accepts exactly the listings: where no fault fits, each word is what it has to be, and the other way round.
 use Rattle.std.proofs.Common.{◌≡◌, ℕ, zero, suc, ◌+◌, ◌-◌, ◌<◌, ◌≤◌, Bool, true, false, not, ◌&&◌, eqb, ltb, leb, ◌⊎◌, List, [], ◌∷◌, ◌++◌, length, Ok, sym, refl, ap, ◌∙◌, subst, inl, inr, ⊎_elim, arith}
-use Rattle.std.specs.List.{range_with_len, flat_map, AllByRecursion as All}
+use Rattle.std.specs.List.{range_with_len, flat_map, AllByRecursion}
 use Rattle.std.proofs.lemmas.Bool.{ltb-true, leb-true, leb-false, lt-ltb, le-leb, eq-eqb, lt-leb, le-ltb, eqb-true, not-false, and_parts, and_from, not_from_true, or_from, both_ways, cases_order}
 use Rattle.listing.specs.declared.counts.Counts.{Counts}
 use Rattle.listing.specs.declared.fault.Fault.{Fault}
@@ -12,18 +12,18 @@ use Rattle.listing.specs.Checks.{Accepts}
 use Rattle.listing.proofs.Verdicts.{none_all, all_none, answered_none}
 
 -- ---- what holds of every fault of a list
-all_left : {X : Type 0} (P : X → Type 0) (xs ys : List X) → All P (xs ++ ys) → All P xs
+all_left : {X : Type 0} (P : X → Type 0) (xs ys : List X) → AllByRecursion P (xs ++ ys) → AllByRecursion P xs
 all_left P [] ys a = tt
 all_left P (x ∷ xs) ys a = (a.0, all_left P xs ys a.1)
 
-all_right : {X : Type 0} (P : X → Type 0) (xs ys : List X) → All P (xs ++ ys) → All P ys
+all_right : {X : Type 0} (P : X → Type 0) (xs ys : List X) → AllByRecursion P (xs ++ ys) → AllByRecursion P ys
 all_right P [] ys a = a
 all_right P (x ∷ xs) ys a = all_right P xs ys a.1
 
-all_places : (P : Fault → Type 0) (n p : ℕ) → All P (flat_map faults_at (range_with_len p n)) → (q : ℕ) → p ≤ q → q < p + n → All P (faults_at q)
+all_places : (P : Fault → Type 0) (n p : ℕ) → AllByRecursion P (flat_map faults_at (range_with_len p n)) → (q : ℕ) → p ≤ q → q < p + n → AllByRecursion P (faults_at q)
 all_places P zero p a q low high = absurd (omega arith)
 all_places P (suc n) p a q low high =
-    ⊎_elim (λ e. subst (λ k. All P (faults_at k)) e (all_left P (faults_at p) (flat_map faults_at (range_with_len (p + 1) n)) a))
+    ⊎_elim (λ e. subst (λ k. AllByRecursion P (faults_at k)) e (all_left P (faults_at p) (flat_map faults_at (range_with_len (p + 1) n)) a))
     (λ l. all_places P n (p + 1) (all_right P (faults_at p) (flat_map faults_at (range_with_len (p + 1) n)) a) q (omega arith) (omega arith))
     (here_or_later p q low)
   where
@@ -40,7 +40,7 @@ unlike : (a b : Bool) → (a && b) ≡ false → a ≡ true → b ≡ false
 unlike true b e h = e
 unlike false b e h = absurd (both_ways false refl h)
 
-module _ (ws : List ℕ) (sound : All (λ f. fits ws f ≡ false) (ranked (length ws))) where
+module _ (ws : List ℕ) (sound : AllByRecursion (λ f. fits ws f ≡ false) (ranked (length ws))) where
   abbrev blocks : ℕ
   blocks = (counts_of ws).blocks
 
@@ -50,7 +50,7 @@ module _ (ws : List ℕ) (sound : All (λ f. fits ws f ≡ false) (ranked (lengt
   total : length ws ≡ blocks + wires + 2
   total = eqb-true (length ws) (blocks + wires + 2) (not-false _ sound.1.1.0)
 
-  at_place : (p : ℕ) → 0 < p → p < length ws → All (λ f. fits ws f ≡ false) (faults_at p)
+  at_place : (p : ℕ) → 0 < p → p < length ws → AllByRecursion (λ f. fits ws f ≡ false) (faults_at p)
   at_place p low high =
       all_places (λ f. fits ws f ≡ false) (length ws - 1) 1 sound.1.1.1 p low (omega arith)
 
@@ -139,7 +139,7 @@ module _ (ws : List ℕ) (listing : Listing ws (counts_of ws)) where
       not_from_true _ (subst (λ k. is_closing k (word ws k) ≡ true) (sym e) listing.closing))
   none_from_listing (PartialWord p) = refl
 
-all_of : {X : Type 0} (P : X → Type 0) → ((x : X) → P x) → (xs : List X) → All P xs
+all_of : {X : Type 0} (P : X → Type 0) → ((x : X) → P x) → (xs : List X) → AllByRecursion P xs
 all_of P h [] = tt
 all_of P h (x ∷ xs) = (h x, all_of P h xs)
 

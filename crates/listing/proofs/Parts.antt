@@ -1,6 +1,6 @@
 -- The block words and the wire words of a listing, place by place.
 use Rattle.std.proofs.Common.{◌≡◌, ℕ, ◌+◌, ◌<◌, ◌≤◌, true, List, map, length, get_or, take, drop, Some, sym, ap, ◌∙◌, subst, arith}
-use Rattle.std.specs.List.{AllByRecursion as All, slice_get}
+use Rattle.std.specs.List.{AllByRecursion, slice_get}
 use Rattle.std.proofs.lemmas.List.{length-take-le, length-drop, get_or-take, get_or-drop, length-map, get_or-map}
 use Rattle.std.proofs.ByRecursion.{All-from_get_or}
 use Rattle.std.proofs.lemmas.Option.{slice_get-get_or}
@@ -43,7 +43,7 @@ module _ (ws : List ℕ) (l : Listing ws (counts_of ws)) where
       slice_get-get_or (map tag_set (block_words ws)) v (set 0) (omega arith)
       ∙ ap Some (get_or-map tag_set (block_words ws) v 0 (set 0) (omega arith) ∙ ap tag_set (get_d_part ws 1 b v h))
 
-  pub all_wires : All (λ w. is_wire b w ≡ true) (wire_words ws)
+  pub all_wires : AllByRecursion (λ w. is_wire b w ≡ true) (wire_words ws)
   all_wires =
       let m = length-wire_words in
       All-from_get_or (λ w. is_wire b w ≡ true) (wire_words ws) 0

@@ -1,6 +1,6 @@
 -- The check refuses with exactly the first fault: the one at the lowest place, and there with the lowest number.
 use Rattle.std.proofs.Common.{◌≡◌, ℕ, zero, suc, ◌+◌, ◌-◌, ◌<◌, ◌≤◌, Bool, true, false, cond, eqb, List, [], ◌∷◌, length, Some, None, Ok, Err, Option, Result, sym, refl, ap, ◌∙◌, subst, inl, inr, ⊎_elim, arith}
-use Rattle.std.specs.List.{range_with_len, flat_map, AllByRecursion as All}
+use Rattle.std.specs.List.{range_with_len, flat_map, AllByRecursion}
 use Rattle.std.proofs.lemmas.Bool.{both_ways, cases_order, ltb-true, eqb-true, and_parts}
 use Rattle.listing.specs.declared.counts.Counts.{Counts}
 use Rattle.listing.specs.declared.fault.Fault.{Fault}
@@ -14,7 +14,7 @@ use Rattle.listing.proofs.Accepts.{no_fault, accepts}
 -- ---- the first of a list whose numbers rise
 -- every fault of the list has a number of at least n
 abbrev From : ℕ → List Fault → Type 0
-From n fs = All (λ f. n ≤ number_of f) fs
+From n fs = AllByRecursion (λ f. n ≤ number_of f) fs
 
 abbrev Ascending : List Fault → Type 0
 Ascending [] = Unit {0}
@@ -23,13 +23,13 @@ Ascending (f ∷ fs) = From (number_of f) fs × Ascending fs
 -- what fits of a list is not below its first
 record Least (ws : List ℕ) (fs : List Fault) (f : Fault) : Type 0 where
   fitting : fits ws f ≡ true
-  least : All (λ g. fits ws g ≡ true → number_of g < number_of f → ⊥) fs
+  least : AllByRecursion (λ g. fits ws g ≡ true → number_of g < number_of f → ⊥) fs
 
 least_in : (ws : List ℕ) (fs : List Fault) (f : Fault) → Ascending fs → first_that (fits ws) fs ≡ Some f → Least ws fs f
 least_in ws [] f up e = let z : ◌≡◌ {A = ℕ} 0 1 = cc in absurd (omega arith)
 least_in ws (g ∷ fs) f up e = go (fits ws g) refl (least_in ws fs f up.1) e
   where
-    above : (n : ℕ) (gs : List Fault) → From n gs → All (λ h. fits ws h ≡ true → number_of h < n → ⊥) gs
+    above : (n : ℕ) (gs : List Fault) → From n gs → AllByRecursion (λ h. fits ws h ≡ true → number_of h < n → ⊥) gs
     above n [] a = tt
     above n (h ∷ gs) a = ((λ _ l. let m = a.0 in omega arith), above n gs a.1)
 
@@ -41,7 +41,7 @@ least_in ws (g ∷ fs) f up e = go (fits ws g) refl (least_in ws fs f up.1) e
         let r = rest x in
         record { fitting = r.fitting; least = ((λ t _. both_ways (fits ws g) h t), r.least) }
 
-all_of_first : (P : Fault → Type 0) (ws : List ℕ) (fs : List Fault) (f : Fault) → All P fs → first_that (fits ws) fs ≡ Some f → P f
+all_of_first : (P : Fault → Type 0) (ws : List ℕ) (fs : List Fault) (f : Fault) → AllByRecursion P fs → first_that (fits ws) fs ≡ Some f → P f
 all_of_first P ws [] f a e = let z : ◌≡◌ {A = ℕ} 0 1 = cc in absurd (omega arith)
 all_of_first P ws (g ∷ fs) f a e = go (fits ws g) (all_of_first P ws fs f a.1) e
   where
@@ -51,7 +51,7 @@ all_of_first P ws (g ∷ fs) f a e = go (fits ws g) (all_of_first P ws fs f a.1)
 
 -- ---- the faults of one place
 -- a fault of words at a place after the first is one of the four of that place
-one_of_four : (P : Fault → Type 0) (ws : List ℕ) (p : ℕ) (g : Fault) → 0 < p → place_of g ≡ p → fits ws g ≡ true → All P (faults_at p) → P g
+one_of_four : (P : Fault → Type 0) (ws : List ℕ) (p : ℕ) (g : Fault) → 0 < p → place_of g ≡ p → fits ws g ≡ true → AllByRecursion P (faults_at p) → P g
 one_of_four P ws p WordCount h e t a = absurd (omega arith)
 one_of_four P ws p Opening h e t a = absurd (omega arith)
 one_of_four P ws p Total h e t a = absurd (omega arith)
@@ -61,7 +61,7 @@ one_of_four P ws p (Rise q) h e t a = subst (λ k. P (Rise (at k))) (sym e) a.1.
 one_of_four P ws p (Closing q) h e t a = subst (λ k. P (Closing (at k))) (sym e) a.1.1.1.0
 one_of_four P ws p (PartialWord q) h e t a = absurd (both_ways false refl t)
 
-one_of_three : (P : Fault → Type 0) (ws : List ℕ) (g : Fault) → place_of g ≡ 0 → fits ws g ≡ true → All P opening_faults → P g
+one_of_three : (P : Fault → Type 0) (ws : List ℕ) (g : Fault) → place_of g ≡ 0 → fits ws g ≡ true → AllByRecursion P opening_faults → P g
 one_of_three P ws WordCount e t a = a.0
 one_of_three P ws Opening e t a = a.1.0
 one_of_three P ws Total e t a = a.1.1.0

@@ -1,6 +1,6 @@
 -- Lists of numbers that rise strictly: one list for each set.
 use Rattle.std.proofs.Common.{◌≡◌, ℕ, zero, suc, ◌+◌, ◌<◌, ◌≤◌, Bool, true, false, ◌||◌, ◌⊎◌, List, [], ◌∷◌, length, get_or, sym, refl, ap, ◌∙◌, subst, inl, inr, add-one, arith}
-use Rattle.std.specs.List.{AllByRecursion as All}
+use Rattle.std.specs.List.{AllByRecursion}
 use Rattle.std.proofs.lemmas.Bool.{both_ways}
 use Rattle.listing.specs.Graphs.{any_of}
 
@@ -9,7 +9,7 @@ abbrev pub In : ℕ → List ℕ → Type 0
 In z [] = ⊥
 In z (x ∷ xs) = (z ≡ x) ⊎ In z xs
 
-pub in_all : (P : ℕ → Type 0) (xs : List ℕ) (z : ℕ) → All P xs → In z xs → P z
+pub in_all : (P : ℕ → Type 0) (xs : List ℕ) (z : ℕ) → AllByRecursion P xs → In z xs → P z
 in_all P [] z a i = absurd i
 in_all P (x ∷ xs) z a (inl e) = subst P (sym e) a.0
 in_all P (x ∷ xs) z a (inr i) = in_all P xs z a.1 i

@@ -1,6 +1,6 @@
 -- The first fault of words from a place on, and how the check comes to it.
 use Rattle.std.proofs.Common.{◌≡◌, ℕ, suc, ◌+◌, ◌-◌, ◌<◌, ◌≤◌, Bool, true, false, cond, ltb, List, [], ◌∷◌, ◌++◌, length, is_some, Some, None, Ok, Err, Option, sym, refl, ap, ◌∙◌, arith}
-use Rattle.std.specs.List.{AllByRecursion as All, range_with_len, flat_map}
+use Rattle.std.specs.List.{AllByRecursion, range_with_len, flat_map}
 use Rattle.std.proofs.lemmas.Bool.{ltb-false, or_parts, eqb-true, not-false}
 use Rattle.listing.specs.declared.counts.Counts.{Counts}
 use Rattle.listing.specs.declared.fault.Fault.{Fault}
@@ -27,16 +27,16 @@ first_that_found t (x ∷ xs) ys y e = go (t x) (first_that_found t xs ys y) e
     go false rest h = rest h
 
 -- none passes: each fails
-pub none_all : {X : Type 0} (t : X → Bool) (xs : List X) → first_that t xs ≡ None → All (λ x. t x ≡ false) xs
+pub none_all : {X : Type 0} (t : X → Bool) (xs : List X) → first_that t xs ≡ None → AllByRecursion (λ x. t x ≡ false) xs
 none_all t [] e = tt
 none_all t (x ∷ xs) e = go (t x) refl (none_all t xs) e
   where
-    go : (b : Bool) → t x ≡ b → (first_that t xs ≡ None → All (λ y. t y ≡ false) xs) → cond b (Some x) (first_that t xs) ≡ None
-        → (t x ≡ false) × All (λ y. t y ≡ false) xs
+    go : (b : Bool) → t x ≡ b → (first_that t xs ≡ None → AllByRecursion (λ y. t y ≡ false) xs) → cond b (Some x) (first_that t xs) ≡ None
+        → (t x ≡ false) × AllByRecursion (λ y. t y ≡ false) xs
     go true h rest f = let z : ◌≡◌ {A = ℕ} 0 1 = cc in absurd (omega arith)
     go false h rest f = (h, rest f)
 
-pub all_none : {X : Type 0} (t : X → Bool) (xs : List X) → All (λ x. t x ≡ false) xs → first_that t xs ≡ None
+pub all_none : {X : Type 0} (t : X → Bool) (xs : List X) → AllByRecursion (λ x. t x ≡ false) xs → first_that t xs ≡ None
 all_none t [] a = refl
 all_none t (x ∷ xs) a = rw a.0 (all_none t xs a.1)
 

@@ -1,16 +1,16 @@
 -- Members of appended, mapped, joined and filtered lists.
 use Rattle.std.proofs.Common.{◌≡◌, ℕ, zero, suc, ◌<◌, Bool, true, false, cond, ◌||◌, ◌⊎◌, List, [], ◌∷◌, ◌++◌, map, length, get_or, filter, sym, refl, ap, ◌∙◌, subst, inl, inr, ⊎_elim, arith}
-use Rattle.std.specs.List.{flat_map, AllByRecursion as All}
+use Rattle.std.specs.List.{flat_map, AllByRecursion}
 use Rattle.std.proofs.lemmas.Bool.{both_ways}
 use Rattle.lists.specs.Members.{In, any_of}
 
 module _ {X : Type 0} where
-  pub in_all : (P : X → Type 0) (xs : List X) (z : X) → All P xs → In z xs → P z
+  pub in_all : (P : X → Type 0) (xs : List X) (z : X) → AllByRecursion P xs → In z xs → P z
   in_all P [] z a i = absurd i
   in_all P (x ∷ xs) z a (inl e) = subst P (sym e) a.0
   in_all P (x ∷ xs) z a (inr i) = in_all P xs z a.1 i
 
-  pub all_in : (P : X → Type 0) (xs : List X) → ((z : X) → In z xs → P z) → All P xs
+  pub all_in : (P : X → Type 0) (xs : List X) → ((z : X) → In z xs → P z) → AllByRecursion P xs
   all_in P [] h = tt
   all_in P (x ∷ xs) h = (h x (inl refl), all_in P xs (λ z i. h z (inr i)))
 

@@ -6,7 +6,7 @@
 --   Rising R xs    each member of xs stands in the relation R to all that follow it
 --   any_of t xs     the test t passes at one of xs
 use Rattle.std.specs.Prelude.{◌≡◌, Bool, false, ◌||◌, ◌⊎◌, List, [], ◌∷◌}
-use Rattle.std.specs.List.{AllByRecursion as All}
+use Rattle.std.specs.List.{AllByRecursion}
 
 abbrev pub In : {X : Type 0} → X → List X → Type 0
 In x [] = ⊥
@@ -21,7 +21,7 @@ Distinct (x ∷ xs) = (In x xs → ⊥) × Distinct xs
 
 abbrev pub Rising : {X : Type 0} → (X → X → Type 0) → List X → Type 0
 Rising R [] = Unit {0}
-Rising R (x ∷ xs) = All (R x) xs × Rising R xs
+Rising R (x ∷ xs) = AllByRecursion (R x) xs × Rising R xs
 
 abbrev pub any_of : {X : Type 0} → (X → Bool) → List X → Bool
 any_of t [] = false
