@@ -1,15 +1,15 @@
 -- Worked examples of the definitions, in one table.
 --
---   Example       what is asked, and the answer that it has
---   told r        an answer of the check, with a fault told by its number and place
---   by_subset p q  the matching problem of a listing p in a listing q, by subset rules
---   by_exact p q   the same, with the exact rule for pairs
---   Holds e       the definitions give the example's answer
---   accepted, refused  an acceptance with two counts; a refusal with a number and a place
---   fives         the band from -5 to 5
+--   Example             what is asked, and the answer that it has
+--   told r              an answer of the check, with a fault told by its number and place
+--   by_subset p q       the matching problem of a listing p in a listing q, by subset rules
+--   by_exact p q        the same, with the exact rule for pairs
+--   Holds e             the definitions give the example's answer
+--   accepted, refused   an acceptance with two counts; a refusal with a number and a place
+--   fives               the band from -5 to 5
 --   loop, double_loop   a block wired to itself with type 0; with types 0 and 1
---   table         the examples
---   TableHolds    every example of the table holds
+--   table               the examples
+--   TableHolds          every example of the table holds
 use Rattle.std.specs.Prelude.{◌≡◌, ℕ, Bool, true, false, List, [], ◌∷◌, ℤ, pos, negsuc, Ok, Err, Result}
 use Rattle.std.specs.List.{AllByRecursion}
 use Rattle.refusal.specs.declared.Refusal.{Refusal}

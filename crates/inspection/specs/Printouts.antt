@@ -1,11 +1,11 @@
 -- What `inspect` prints of two files, from their bytes alone.
 --
---   verdict_line role r      the line of a file that is found to be r: its counts, or the number and place of its first fault
---   file_line role bs        the line of a file of these bytes
---   printout ps qs          all that is printed for a pattern file of bytes ps and a program file of bytes qs, the pattern first
---   file_graph_line bs i      line i of the graph that a file of these bytes holds; none where the file is refused, or has
---                           no such line
---   overwritten text m      a memory that held m, with the text at its front and the bytes after it as they were
+--   verdict_line role r    the line of a file that is found to be r: its counts, or the number and place of its first fault
+--   file_line role bs      the line of a file of these bytes
+--   printout ps qs         all that is printed for a pattern file of bytes ps and a program file of bytes qs, the pattern first
+--   file_graph_line bs i   line i of the graph that a file of these bytes holds; none where the file is refused, or has
+--                          no such line
+--   overwritten text m     a memory that held m, with the text at its front and the bytes after it as they were
 use Rattle.std.specs.Prelude.{ℕ, List, ◌++◌, length, drop, None, Ok, Err, Option, Result}
 use Rattle.listing.specs.declared.counts.Counts.{Counts}
 use Rattle.listing.specs.declared.fault.Fault.{Fault}

@@ -1,6 +1,6 @@
 -- The refusals of a layout.
 --
---   refusal f    the number of the fault f, and its place: the check's for a fault of the words, else 18 or 19 with no place
+--   refusal f   the number of the fault f, and its place: the check's for a fault of the words, else 18 or 19 with no place
 use Rattle.refusal.specs.Refusals.{unplaced}
 use Rattle.refusal.specs.declared.Refusal.{Refusal}
 use Rattle.listing.specs.Faults as listing

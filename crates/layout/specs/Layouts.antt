@@ -1,21 +1,21 @@
 -- The layout of a graph: its rows one after another, and where each begins.
 --
---   entry v s              the entry for wires to block v whose types are the set s
---   cell_of g u v           the entry for the wires from u to v; nothing where there is no wire
---   row_of g u              one entry for each block that u is wired to, to-blocks rising
---   entries_of g            the rows of all blocks, one after another
---   start_of g u            where the row of u begins: how many entries the rows before it have
---   starts_of g             the starts of all rows, and after them the number of entries
---   laid new old           a buffer that held old, with new written over its first places
---   fault_of g s e r        why a graph g that the check answered with r is not laid out into s places for starts and e for
---                          entries: the check's fault, else too little room for the starts, else too little for the entries
---   fault_for ws ss es      the same of the words ws, the starts ss and the entries es
---   answer_by n f           the answer where n entries are laid out: n where f is no fault, else f
---   left_by new old f       a buffer that held old, afterwards: with new laid where f is no fault, else as it was
---   layout_answer ws ss es  the answer of the layout: the number of entries, or the fault
---   starts_left ws ss es    what the starts hold afterwards: the starts of the graph that ws states, then what they held there;
---                          all as it was at a fault
---   entries_left ws ss es   what the entries hold afterwards, in the same way
+--   entry v s                the entry for wires to block v whose types are the set s
+--   cell_of g u v            the entry for the wires from u to v; nothing where there is no wire
+--   row_of g u               one entry for each block that u is wired to, to-blocks rising
+--   entries_of g             the rows of all blocks, one after another
+--   start_of g u             where the row of u begins: how many entries the rows before it have
+--   starts_of g              the starts of all rows, and after them the number of entries
+--   laid new old             a buffer that held old, with new written over its first places
+--   fault_of g s e r         why a graph g that the check answered with r is not laid out into s places for starts and e for
+--                            entries: the check's fault, else too little room for the starts, else too little for the entries
+--   fault_for ws ss es       the same of the words ws, the starts ss and the entries es
+--   answer_by n f            the answer where n entries are laid out: n where f is no fault, else f
+--   left_by new old f        a buffer that held old, afterwards: with new laid where f is no fault, else as it was
+--   layout_answer ws ss es   the answer of the layout: the number of entries, or the fault
+--   starts_left ws ss es     what the starts hold afterwards: the starts of the graph that ws states, then what they held there;
+--                            all as it was at a fault
+--   entries_left ws ss es    what the entries hold afterwards, in the same way
 use Rattle.std.specs.Prelude.{ℕ, ◌+◌, cond, List, [], ◌∷◌, ◌++◌, map, length, drop, Some, None, Ok, Err, Option, Result, ◌==◌, nat_lt}
 use Rattle.std.specs.List.{range_with_len, flat_map}
 use Rattle.sets.specs.declared.Set.{Set}

@@ -1,8 +1,8 @@
 -- How far a pass over the wires of a listing has come.
 --
---   drawn ls vs       the graph of the block labels ls whose wires are those of the wire words vs
---   early ws i        the graph that the words ws would state with their first i wires alone
---   Below ws row p    the pass p has passed wires that run from blocks below row, and counted the pairs that these wire
+--   drawn ls vs      the graph of the block labels ls whose wires are those of the wire words vs
+--   early ws i       the graph that the words ws would state with their first i wires alone
+--   Below ws row p   the pass p has passed wires that run from blocks below row, and counted the pairs that these wire
 use Rattle.std.specs.Prelude.{◌≡◌, ℕ, ◌<◌, ◌≤◌, List, length, take, slice_index}
 use Rattle.sets.specs.Sets.{set, set_of}
 use Rattle.sets.specs.declared.Set.{Set}

@@ -1,15 +1,15 @@
 -- The lines that tell the graph of a listing, and what a call that writes one of them answers and leaves.
---   tag_text s k       the text of one tag: a space and its number, or nothing where k is not in the set s
---   tags_below n s     the text of the tags of s that are below n, rising
---   tags_text s        the text of a tag set: of the tags below 24
---   block_line v s     the line of block number v with the tag set s
---   block_lines v ws   the lines of the blocks with the words ws, numbered from v on
---   wire_line w        the line of the wire that the word w lays
---   graph_lines ws     all lines of the words ws: those of the blocks, then those of the wires, in the words' order
---   graph_line ws i    the line of number i, if there is one
---   line_length line   what a call answers that is to write a line: its length, if there is one
---   line_over line out what the buffer holds afterwards: the line and then what stood there, or all as it was
---   Short r           the answered length, if there is one, is at most 80
+--   tag_text s k         the text of one tag: a space and its number, or nothing where k is not in the set s
+--   tags_below n s       the text of the tags of s that are below n, rising
+--   tags_text s          the text of a tag set: of the tags below 24
+--   block_line v s       the line of block number v with the tag set s
+--   block_lines v ws     the lines of the blocks with the words ws, numbered from v on
+--   wire_line w          the line of the wire that the word w lays
+--   graph_lines ws       all lines of the words ws: those of the blocks, then those of the wires, in the words' order
+--   graph_line ws i      the line of number i, if there is one
+--   line_length line     what a call answers that is to write a line: its length, if there is one
+--   line_over line out   what the buffer holds afterwards: the line and then what stood there, or all as it was
+--   Short r              the answered length, if there is one, is at most 80
 use Rattle.std.specs.Prelude.{ℕ, ◌+◌, ◌≤◌, cond, List, [], ◌∷◌, ◌++◌, map, length, drop, Some, None, codes, decimal, Option}
 use Rattle.listing.specs.Listings.{block_words, wire_words}
 use Rattle.listing.specs.Words.{block_tags, wire_from, wire_to, wire_type}

@@ -1,13 +1,13 @@
 -- The text of the lines that tell of a file, and what a call that writes one answers and leaves.
---   role_word    the word by which a line names its file
---   refusal     the refusal that a line fault is told as: number 8, with no place
---   number_line  the form of every line: a role's word, a space, a number, a text, a number, a text
---   fault_line   the line that tells a refusal: its number, and its place
---   count_line   the line that tells how many blocks and how many wires a listing has
---   line_answer  what a call answers that is to write a line: its length, or that the buffer has under 64 bytes
---   line_left    what the buffer holds afterwards: the line and then what stood there, or all as it was
---   written     a buffer with a text written over it from a place on
---   Wrote       a text was written over a buffer from a place on, and the answer is the place after it
+--   role_word     the word by which a line names its file
+--   refusal       the refusal that a line fault is told as: number 8, with no place
+--   number_line   the form of every line: a role's word, a space, a number, a text, a number, a text
+--   fault_line    the line that tells a refusal: its number, and its place
+--   count_line    the line that tells how many blocks and how many wires a listing has
+--   line_answer   what a call answers that is to write a line: its length, or that the buffer has under 64 bytes
+--   line_left     what the buffer holds afterwards: the line and then what stood there, or all as it was
+--   written       a buffer with a text written over it from a place on
+--   Wrote         a text was written over a buffer from a place on, and the answer is the place after it
 use Rattle.std.specs.Prelude.{◌≡◌, ℕ, ◌+◌, cond, List, [], ◌∷◌, ◌++◌, length, take, drop, Ok, Err, codes, decimal, Result, nat_lt}
 use Rattle.lines.specs.declared.fault.LineFault.{LineFault}
 use Rattle.lines.specs.declared.fault.LineFault.TheVariants.{ShortBuffer}

@@ -2,7 +2,7 @@
 --
 --   Accepts ws r       the answer r accepts with the counts c exactly where ws is a listing of these counts
 --   Refuses ws r       the answer r refuses with the fault f exactly where f is the first fault of ws
---   wire_word ws c e    the word of wire e
+--   wire_word ws c e   the word of wire e
 --   Laid ws c u v k    one of the wires of ws runs from block u to block v and has type k
 --   States ws c        the graph that ws states: as many blocks as c says, each with the tags of its block word, and
 --                      type k in the set of a pair exactly when such a wire is laid

@@ -1,20 +1,20 @@
 -- The faults of words that are no listing, which of them comes first, and what the check answers.
 --
---   refusal f        the number of the fault f, and its place
+--   refusal f         the number of the fault f, and its place
 --   number_of f       its number
 --   place_of f        its place as a number
---   fits ws f        the fault f is a fault of the words ws
---   Before f g       f comes before g: at a lower place, or at the same place with a lower number
---   FirstFault ws f  f is a fault of ws, and none of its faults comes before f
---   Inside ws c p    the opening word of ws gives the counts c, there are as many words as it asks for, and p is the
---                    place of one of them after the first
+--   fits ws f         the fault f is a fault of the words ws
+--   Before f g        f comes before g: at a lower place, or at the same place with a lower number
+--   FirstFault ws f   f is a fault of ws, and none of its faults comes before f
+--   Inside ws c p     the opening word of ws gives the counts c, there are as many words as it asks for, and p is the
+--                     place of one of them after the first
 --   opening_faults    the faults at place 0, lowest number first
 --   faults_at p       the faults that a word after the first can have at place p, lowest number first
---   ranked n         every fault that n words can have, each before those that it comes before
+--   ranked n          every fault that n words can have, each before those that it comes before
 --   first_that t xs   the first of xs that passes the test t
---   at p             the place p
---   answered c f     the answer where f is the first fault: f, or the counts c where there is none
---   verdict ws       the first of the faults of ws; where there is none, the two counts
+--   at p              the place p
+--   answered c f      the answer where f is the first fault: f, or the counts c where there is none
+--   verdict ws        the first of the faults of ws; where there is none, the two counts
 use Rattle.std.specs.Prelude.{◌≡◌, ℕ, ◌+◌, ◌-◌, ◌<◌, Bool, true, false, cond, not, ◌&&◌, ◌||◌, ◌⊎◌, List, [], ◌∷◌, ◌++◌, length, Some, None, Ok, Err, Option, Result, ◌==◌, nat_le, nat_lt}
 use Rattle.std.specs.List.{range_with_len, flat_map}
 use Rattle.std.specs.Option.{unwrap_or}

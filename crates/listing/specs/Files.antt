@@ -1,6 +1,6 @@
 -- The words of a file, and what a file is found to be.
 --
---   taken bs         the bytes of a file that are read: the first 4,876, and nothing past them
+--   taken bs          the bytes of a file that are read: the first 4,876, and nothing past them
 --   word_at bs i      word i: the four bytes from byte 4 i up, the highest first
 --   file_words bs     the whole words of the bytes that are read
 --   whole_words bs    how many whole words these bytes hold

@@ -2,12 +2,12 @@
 --
 --   leads u v w       the wire word w lays a wire from u to v
 --   runs u v k w      the wire word w lays a wire of type k from u to v
---   any_of t ws        the test t passes at one of the words
+--   any_of t ws       the test t passes at one of the words
 --   wired ws u v k    one of the wire words lays such a wire
 --   stated ws         the graph that the words state: each block is labelled with its tag set, and each ordered pair of
 --                     blocks with the set of the types of the wires from the one to the other
---   tag_set w          the tag set of a block word
---   type_set ws u v    the set of the types of the wires from u to v
+--   tag_set w         the tag set of a block word
+--   type_set ws u v   the set of the types of the wires from u to v
 --   SameGraph g h     the same count, the same tag set at each block, the same type set at each pair of blocks
 use Rattle.std.specs.Prelude.{◌≡◌, ℕ, ◌<◌, Bool, false, ◌&&◌, ◌||◌, List, [], ◌∷◌, map, ◌==◌}
 use Rattle.listing.specs.Words.{block_tags, wire_from, wire_to, wire_type}

@@ -1,10 +1,10 @@
 -- What a listing is: for every place, what the word there has to be.
 --
---   word ws p       the word at place p
+--   word ws p        the word at place p
 --   counts_of ws     the two counts that the first word gives
 --   block_words ws   the words in the places of blocks, in block order
 --   wire_words ws    the words in the places of wires
---   Listing ws c    the words ws are a listing of c.blocks blocks and c.wires wires
+--   Listing ws c     the words ws are a listing of c.blocks blocks and c.wires wires
 use Rattle.std.specs.Prelude.{◌≡◌, ℕ, ◌+◌, ◌<◌, true, List, length, take, drop, slice_index}
 use Rattle.listing.specs.declared.counts.Counts.{Counts}
 use Rattle.listing.specs.Words.{opening_blocks, opening_wires, is_opening, is_block, is_wire, is_closing}

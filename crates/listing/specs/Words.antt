@@ -1,12 +1,12 @@
 -- The four kinds of words that a listing is made of, as tests on 32-bit words.
 --
---   field low width w   the number that `width` bits of w hold, from bit `low` up
---   kind w              bits 31 and 30, which say what sort of word w is
+--   field low width w    the number that `width` bits of w hold, from bit `low` up
+--   kind w               bits 31 and 30, which say what sort of word w is
 --   kind_number k        the number of each kind
 --   opening_blocks w     the block count that an opening word gives, bits 15 to 0
 --   opening_wires w      the wire count that an opening word gives, bits 29 to 16
 --   block_tags w         the set of tags that a block word gives, bits 23 to 0: tag k is in it when bit k is 1
---   wire_from, wire_to    the blocks between which a wire word lays a wire, bits 29 to 22 and 21 to 14
+--   wire_from, wire_to   the blocks between which a wire word lays a wire, bits 29 to 22 and 21 to 14
 --   wire_type w          the type of that wire, bits 4 to 0
 --   is_opening w         w is an opening word: kind 0, 1 to 192 blocks, 0 to 1,024 wires
 --   is_block w           w is a block word: kind 1, bits 29 to 24 zero, at least one tag

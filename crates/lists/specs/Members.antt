@@ -4,7 +4,7 @@
 --   Within xs ys   every member of xs is a member of ys
 --   Distinct xs    no member of xs stands in it twice
 --   Rising R xs    each member of xs stands in the relation R to all that follow it
---   any_of t xs     the test t passes at one of xs
+--   any_of t xs    the test t passes at one of xs
 use Rattle.std.specs.Prelude.{◌≡◌, Bool, false, ◌||◌, ◌⊎◌, List, [], ◌∷◌}
 use Rattle.std.specs.List.{AllByRecursion}
 

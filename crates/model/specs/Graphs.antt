@@ -1,10 +1,10 @@
 -- What a store means: a labelled graph.
 --
---   Graph L P          the labels of its blocks, in block order, and a label for each ordered pair of blocks
---   block_count g       how many blocks it has; blocks are the numbers below
---   label_at g v        the label of block v; none at or above the count
---   pair_at g u v       the label of the pair of blocks (u, v); none where one of them is at or above the count
---   SameMeaning g h    the three questions about g and about h have the same answers
+--   Graph L P         the labels of its blocks, in block order, and a label for each ordered pair of blocks
+--   block_count g     how many blocks it has; blocks are the numbers below
+--   label_at g v      the label of block v; none at or above the count
+--   pair_at g u v     the label of the pair of blocks (u, v); none where one of them is at or above the count
+--   SameMeaning g h   the three questions about g and about h have the same answers
 use Rattle.std.specs.Prelude.{◌≡◌, ℕ, cond, ◌&&◌, List, length, Some, None, Option, nat_lt}
 use Rattle.std.specs.List.{slice_get}
 

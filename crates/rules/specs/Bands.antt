@@ -1,8 +1,8 @@
 -- Bands of signed numbers.
 --
---   same_number x y     two signed numbers are equal, as a test
---   in_band band x      the number x lies from the band's low end to its high end, both ends in
---   same_band a b       two bands have equal ends
+--   same_number x y   two signed numbers are equal, as a test
+--   in_band band x    the number x lies from the band's low end to its high end, both ends in
+--   same_band a b     two bands have equal ends
 use Rattle.std.specs.Prelude.{Bool, false, ◌&&◌, ℤ, pos, negsuc, ◌==◌, int_le}
 use Rattle.rules.specs.declared.band.Band.{Band}
 

@@ -1,12 +1,12 @@
 -- Sub-multigraph matching: what embeddings and automorphisms are where labels are sets and fit by the subset rule.
 --
---   Tagged g v k        block v of g has the label k
---   Edge g u v k        g has an edge from u to v with the label k
---   Monomorphism g h f  f maps the blocks of g to different blocks of h, each with all labels of its block, and takes each
---                       edge of g to an edge of h with the same label
---   Symmetry g p        p permutes the blocks of g, and neither it nor its inverse loses a label or an edge
---   SubMultigraphs g h  the embeddings of the task of g in h under subset rules are exactly the monomorphisms, and its
---                       automorphisms exactly the symmetries
+--   Tagged g v k         block v of g has the label k
+--   Edge g u v k         g has an edge from u to v with the label k
+--   Monomorphism g h f   f maps the blocks of g to different blocks of h, each with all labels of its block, and takes each
+--                        edge of g to an edge of h with the same label
+--   Symmetry g p         p permutes the blocks of g, and neither it nor its inverse loses a label or an edge
+--   SubMultigraphs g h   the embeddings of the task of g in h under subset rules are exactly the monomorphisms, and its
+--                        automorphisms exactly the symmetries
 use Rattle.std.specs.Prelude.{◌≡◌, ℕ, ◌<◌, List, Some, slice_index}
 use Rattle.model.specs.Graphs.{Graph, block_count, label_at}
 use Rattle.model.specs.Instances.{Injective, Embedding, Automorphism}

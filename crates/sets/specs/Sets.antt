@@ -1,16 +1,16 @@
 -- Sets of numbers below 32, each held in one word: the numbers of the bits that are 1.
 --
---   has k w        the number k is in the set that the word w holds: bit k of w is 1
---   set_from t k n  the word of those of the n numbers from k up that pass the test t, with k as bit 0
---   set_of t        the word of the set of the numbers below 32 that pass the test t
---   set w          the set that the word w holds
---   Member k s     the number k is in the set s
---   every_below n t the test t passes at every number below n
---   implies, agree  one test implies another; two tests are equal
---   is_subset s t   every member of s is a member of t
---   same_set s t    s and t have the same members
---   joined s t     the members of s and those of t
---   added k s      the members of s and, where it is below 32, the number k
+--   has k w           the number k is in the set that the word w holds: bit k of w is 1
+--   set_from t k n    the word of those of the n numbers from k up that pass the test t, with k as bit 0
+--   set_of t          the word of the set of the numbers below 32 that pass the test t
+--   set w             the set that the word w holds
+--   Member k s        the number k is in the set s
+--   every_below n t   the test t passes at every number below n
+--   implies, agree    one test implies another; two tests are equal
+--   is_subset s t     every member of s is a member of t
+--   same_set s t      s and t have the same members
+--   joined s t        the members of s and those of t
+--   added k s         the members of s and, where it is below 32, the number k
 use Rattle.std.specs.Prelude.{◌≡◌, ℕ, zero, suc, ◌+◌, ◌*◌, ◌/◌, ◌%◌, ◌^◌, ◌<◌, Bool, true, cond, not, ◌&&◌, ◌||◌, ◌==◌}
 use Rattle.sets.specs.declared.Set.{Set}
 

@@ -1,9 +1,9 @@
 -- What a listing store holds.
 --
---   is_read ws       the words ws are a listing, or there are none, as in a store that has read nothing
---   fault_part r     an answer of the check without its counts
---   read_answer ws   what reading ws answers: nothing, or the first fault of ws
---   gathered es u v  the set of the types of those of the wire words es that run from u to v
+--   is_read ws        the words ws are a listing, or there are none, as in a store that has read nothing
+--   fault_part r      an answer of the check without its counts
+--   read_answer ws    what reading ws answers: nothing, or the first fault of ws
+--   gathered es u v   the set of the types of those of the wire words es that run from u to v
 use Rattle.std.specs.Prelude.{ℕ, Bool, ◌||◌, List, length, is_ok, Ok, Err, Result, ◌==◌}
 use Rattle.listing.specs.declared.counts.Counts.{Counts}
 use Rattle.listing.specs.declared.fault.Fault.{Fault}

@@ -1,18 +1,18 @@
 -- What a row store means, and what its filling asks.
 --
---   row_entries starts entries u   the entries of row u: those from its start to the next row's start
---   lists v k e                   the entry e puts k into the label of a pair that ends at v
---   any_entry v k es               one of the entries es does
---   pair_set es v                  the union of those of the entries es that are for v
---   row_graph starts entries labels  the graph of a row store: these labels, and for each pair (u, v) the union of the
---                                 entries of row u that are for v
---   sizes_fit starts labels        there are at most 192 labels, and one start more than labels
---   never_falls starts n           each of the first n starts is at most the next one
---   starts_fit starts entries n    starts begin at 0, never fall, and the start after n rows is the number of entries
---   targets_fit entries n          every entry is for a block below n
+--   row_entries starts entries u        the entries of row u: those from its start to the next row's start
+--   lists v k e                         the entry e puts k into the label of a pair that ends at v
+--   any_entry v k es                    one of the entries es does
+--   pair_set es v                       the union of those of the entries es that are for v
+--   row_graph starts entries labels     the graph of a row store: these labels, and for each pair (u, v) the union of the
+--                                       entries of row u that are for v
+--   sizes_fit starts labels             there are at most 192 labels, and one start more than labels
+--   never_falls starts n                each of the first n starts is at most the next one
+--   starts_fit starts entries n         starts begin at 0, never fall, and the start after n rows is the number of entries
+--   targets_fit entries n               every entry is for a block below n
 --   fill_answer starts entries labels   what filling with these answers
---   refusal f                     the number of a fault of filling; it has no place
-use Rattle.std.specs.Prelude.{ℕ, ◌+◌, ◌-◌, Bool, true, false, cond, ◌&&◌, ◌||◌, leb, List, [], ◌∷◌, length, take, drop, Ok, Err, Result, ◌==◌, nat_le, nat_lt, slice_index}
+--   refusal f                           the number of a fault of filling; it has no place
+use Rattle.std.specs.Prelude.{ℕ, ◌+◌, ◌-◌, Bool, true, false, cond, ◌&&◌, ◌||◌, List, [], ◌∷◌, length, take, drop, Ok, Err, Result, ◌==◌, nat_le, nat_lt, slice_index}
 use Rattle.refusal.specs.Refusals.{unplaced}
 use Rattle.refusal.specs.declared.Refusal.{Refusal}
 use Rattle.model.specs.Graphs.{Graph}
@@ -42,7 +42,7 @@ abbrev pub sizes_fit : {L : Type 0} → List ℕ → List L → Bool
 sizes_fit starts labels = nat_le (length labels) 192 && length starts == length labels + 1
 
 abbrev pub never_falls : List ℕ → ℕ → Bool
-never_falls starts n = every_below n (λ u. leb (slice_index starts u) (slice_index starts (u + 1)))
+never_falls starts n = every_below n (λ u. nat_le (slice_index starts u) (slice_index starts (u + 1)))
 
 abbrev pub starts_fit : List ℕ → List Entry → ℕ → Bool
 starts_fit starts entries n =
