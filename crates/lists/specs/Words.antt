@@ -1,9 +1,9 @@
 -- Words: lists of numbers, compared letter by letter.
 --
---   Lower u v         the word u reads lower than v: at the first letter in which they differ, its letter is the lower
---   lower u v         the test of that
---   words k n         all words of k letters below n, the lowest first
---   FirstDifference   u v   the first letter in which u and v differ: the words agree before it, and that of u is the lower
+--   Lower u v             the word u reads lower than v: at the first letter in which they differ, its letter is the lower
+--   lower u v             the test of that
+--   words k n             all words of k letters below n, the lowest first
+--   FirstDifference u v   the first letter in which u and v differ: the words agree before it, and that of u is the lower
 use Rattle.std.specs.Prelude.{◌≡◌, ℕ, zero, suc, ◌<◌, Bool, false, ◌&&◌, ◌||◌, ◌⊎◌, List, [], ◌∷◌, map, length, ◌==◌, nat_lt, slice_index, slice_index_or}
 use Rattle.std.specs.List.{range_with_len, flat_map}
 
