@@ -3,6 +3,9 @@
 
 usage: python3 tools/respell.py [--list]      at the top of the repository; --list prints the renamings and changes nothing
 
+It ran once, and is kept so that the same can be done to an older commit. A second run would rename what it has named: where
+docs/PORT.md stands it stops.
+
 A name that begins in lower case is written in snake case. A dash stays where it joins the names of two functions, as in
 `length-take`; between plain words it becomes an underscore. Types, modules, constructors, the names of the program's
 functions and the names that Rattle makes for goals stay as they are. A lemma that would have the name of a definition or of
@@ -20,6 +23,8 @@ BY_HAND = {
     "crates/rules/specs/RuleLaws.antt": {"same_number": "same_number_lem"},
     "crates/layout/proofs/Refills.antt": {"starts_fit": "starts_fit_lem"},
 }
+# Names that the kit's script respelled in part, and the parameter of a module.
+BY_NAME = {"get_d_part": "get_or_part", "pairLaws": "pair_laws", "inRange": "in_range"}
 LIBRARY = {"length", "get_or", "take", "drop", "map", "sum", "sum_by", "filter", "reverse", "slice_get", "slice_index", "flat_map", "range_with_len"}
 OLD_WORDS = {"getD": "get_or", "nth": "slice_get", "sumBy": "sum_by", "isSome": "is_some"}
 
@@ -99,6 +104,7 @@ def plan():
     """The renamings, by name: of definitions and fields first; a lemma that would have the name of one gets `_lem`."""
     own, functions = own_names()
     wanted = {n: respelled(n, functions) for n in own - borrowed()}
+    wanted |= {n: wanted[n].replace("-", "_") for n in fields() & set(wanted)} | BY_NAME
     tokens = set()
     for path in files(".antt", ".rt"):
         tokens |= set(NAME.findall(read(path)))
@@ -146,6 +152,9 @@ def together(path, made, behind):
 
 
 def main():
+    if os.path.exists("docs/PORT.md"):
+        print("respell: docs/PORT.md stands, so this was done already")
+        raise SystemExit(2)
     made, behind = plan(), fields()
     if "--list" in sys.argv:
         for name, new in sorted(made.items()):

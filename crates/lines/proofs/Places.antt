@@ -34,8 +34,8 @@ slice_get-block_lines v (w ∷ ws) (suc i) h =
 length_part : (ws : List ℕ) (a n : ℕ) → length (take n (drop a ws)) ≡ min n (length ws - a)
 length_part ws a n = length-take n (drop a ws) ∙ ap (min n) (length-drop a ws)
 
-get_d_part : (ws : List ℕ) (a n i j : ℕ) → i < n → a + i ≡ j → get_or (take n (drop a ws)) i 0 ≡ get_or ws j 0
-get_d_part ws a n i j h same = get_or-take n (drop a ws) i 0 h ∙ get_or-drop a ws i 0 ∙ ap (λ k. get_or ws k 0) same
+get_or_part : (ws : List ℕ) (a n i j : ℕ) → i < n → a + i ≡ j → get_or (take n (drop a ws)) i 0 ≡ get_or ws j 0
+get_or_part ws a n i j h same = get_or-take n (drop a ws) i 0 h ∙ get_or-drop a ws i 0 ∙ ap (λ k. get_or ws k 0) same
 
 past_words : (b n long i : ℕ) → long ≤ i + 1 → min b (long - 1) + min n (long - (1 + b)) ≤ i
 past_words b n long i h = omega arith
@@ -73,7 +73,7 @@ module _ (ws : List ℕ) (i : ℕ) where
       let all = length-block_lines 0 (block_words ws) in
       slice_get_append_left (block_lines 0 (block_words ws)) (map wire_line (wire_words ws)) i (omega arith)
       ∙ slice_get-block_lines 0 (block_words ws) i (omega arith)
-      ∙ ap₂ (λ v w. Some (block_line v (block_tags w))) (zero-add i) (get_d_part ws 1 b i (i + 1) below (omega arith))
+      ∙ ap₂ (λ v w. Some (block_line v (block_tags w))) (zero-add i) (get_or_part ws 1 b i (i + 1) below (omega arith))
 
   pub wire_at : b ≤ i → i < b + n → i + 1 < length ws → graph_line ws i ≡ Some (wire_line (word ws (i + 1)))
   unfolding graph_lines
@@ -85,4 +85,4 @@ module _ (ws : List ℕ) (i : ℕ) where
       ∙ ap (λ m. slice_get (map wire_line (wire_words ws)) (i - m)) blocks
       ∙ slice_get-get_or (map wire_line (wire_words ws)) (i - b) [] (omega arith)
       ∙ ap Some (get_or-map wire_line (wire_words ws) (i - b) 0 [] (omega arith))
-      ∙ ap (λ w. Some (wire_line w)) (get_d_part ws (1 + b) n (i - b) (i + 1) (omega arith) (omega arith))
+      ∙ ap (λ w. Some (wire_line w)) (get_or_part ws (1 + b) n (i - b) (i + 1) (omega arith) (omega arith))

@@ -14,8 +14,8 @@ use Rattle.listing.proofs.Rising.{Rising, rising_from_places}
 length_part : (ws : List ℕ) (a n : ℕ) → a + n ≤ length ws → length (take n (drop a ws)) ≡ n
 length_part ws a n h = length-take-le n (drop a ws) (let l = length-drop a ws in omega arith)
 
-get_d_part : (ws : List ℕ) (a n i : ℕ) → i < n → get_or (take n (drop a ws)) i 0 ≡ get_or ws (a + i) 0
-get_d_part ws a n i h = get_or-take n (drop a ws) i 0 h ∙ get_or-drop a ws i 0
+get_or_part : (ws : List ℕ) (a n i : ℕ) → i < n → get_or (take n (drop a ws)) i 0 ≡ get_or ws (a + i) 0
+get_or_part ws a n i h = get_or-take n (drop a ws) i 0 h ∙ get_or-drop a ws i 0
 
 module _ (ws : List ℕ) (l : Listing ws (counts_of ws)) where
   abbrev b : ℕ
@@ -31,7 +31,7 @@ module _ (ws : List ℕ) (l : Listing ws (counts_of ws)) where
   length-wire_words = let t = l.total in length_part ws (1 + b) n (omega arith)
 
   pub get_or-wire_words : (e : ℕ) → e < n → get_or (wire_words ws) e 0 ≡ word ws (1 + b + e)
-  get_or-wire_words e h = get_d_part ws (1 + b) n e h
+  get_or-wire_words e h = get_or_part ws (1 + b) n e h
 
   pub length_tags : length (map tag_set (block_words ws)) ≡ b
   length_tags = length-map (block_words ws) tag_set ∙ length-block_words
@@ -41,7 +41,7 @@ module _ (ws : List ℕ) (l : Listing ws (counts_of ws)) where
       let m = length-block_words in
       let n = length_tags in
       slice_get-get_or (map tag_set (block_words ws)) v (set 0) (omega arith)
-      ∙ ap Some (get_or-map tag_set (block_words ws) v 0 (set 0) (omega arith) ∙ ap tag_set (get_d_part ws 1 b v h))
+      ∙ ap Some (get_or-map tag_set (block_words ws) v 0 (set 0) (omega arith) ∙ ap tag_set (get_or_part ws 1 b v h))
 
   pub all_wires : AllByRecursion (λ w. is_wire b w ≡ true) (wire_words ws)
   all_wires =
