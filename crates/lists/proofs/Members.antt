@@ -1,8 +1,8 @@
 -- Members of appended, mapped, joined and filtered lists.
 use Rattle.std.proofs.Common.{◌≡◌, ℕ, zero, suc, ◌<◌, Bool, true, false, cond, ◌||◌, ◌⊎◌, List, [], ◌∷◌, ◌++◌, map, length, get_or, filter, sym, refl, ap, ◌∙◌, subst, inl, inr, ⊎_elim, arith}
-use Rattle.std.specs.List.{flat_map, AllByRecursion}
+use Rattle.std.specs.List.{flat_map, AllByRecursion, list_any}
 use Rattle.std.proofs.lemmas.Bool.{both_ways}
-use Rattle.lists.specs.Members.{In, any_of}
+use Rattle.lists.specs.Members.{In}
 
 module _ {X : Type 0} where
   pub in_all : (P : X → Type 0) (xs : List X) (z : X) → AllByRecursion P xs → In z xs → P z
@@ -66,20 +66,20 @@ module _ {X : Type 0} where
       go false e rec j = let r = rec j in (inr r.0, r.1)
 
   -- a test finds one of a list that passes it, exactly when there is one
-  pub any_in : (t : X → Bool) (xs : List X) → any_of t xs ≡ true → (z : X) × In z xs × (t z ≡ true)
+  pub any_in : (t : X → Bool) (xs : List X) → list_any t xs ≡ true → (z : X) × In z xs × (t z ≡ true)
   any_in t [] e = absurd (both_ways false refl e)
   any_in t (x ∷ xs) e = go (t x) refl e (any_in t xs)
     where
-      go : (b : Bool) → t x ≡ b → (b || any_of t xs) ≡ true → (any_of t xs ≡ true → (z : X) × In z xs × (t z ≡ true)) → (z : X) × In z (x ∷ xs) × (t z ≡ true)
+      go : (b : Bool) → t x ≡ b → (b || list_any t xs) ≡ true → (list_any t xs ≡ true → (z : X) × In z xs × (t z ≡ true)) → (z : X) × In z (x ∷ xs) × (t z ≡ true)
       go true h f on = (x, inl refl, h)
       go false h f on = let r = on f in (r.0, inr r.1, r.2)
 
-  pub in_any : (t : X → Bool) (xs : List X) (z : X) → In z xs → t z ≡ true → any_of t xs ≡ true
+  pub in_any : (t : X → Bool) (xs : List X) (z : X) → In z xs → t z ≡ true → list_any t xs ≡ true
   in_any t [] z i h = absurd i
   in_any t (x ∷ xs) z (inl e) h = rw (ap t (sym e) ∙ h) refl
   in_any t (x ∷ xs) z (inr i) h = go (t x) (in_any t xs z i h)
     where
-      go : (b : Bool) → any_of t xs ≡ true → (b || any_of t xs) ≡ true
+      go : (b : Bool) → list_any t xs ≡ true → (b || list_any t xs) ≡ true
       go true f = refl
       go false f = f
 

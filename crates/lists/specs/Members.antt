@@ -4,8 +4,7 @@
 --   Within xs ys   every member of xs is a member of ys
 --   Distinct xs    no member of xs stands in it twice
 --   Rising R xs    each member of xs stands in the relation R to all that follow it
---   any_of t xs    the test t passes at one of xs
-use Rattle.std.specs.Prelude.{◌≡◌, Bool, false, ◌||◌, ◌⊎◌, List, [], ◌∷◌}
+use Rattle.std.specs.Prelude.{◌≡◌, ◌⊎◌, List, [], ◌∷◌}
 use Rattle.std.specs.List.{AllByRecursion}
 
 abbrev pub In : {X : Type 0} → X → List X → Type 0
@@ -22,7 +21,3 @@ Distinct (x ∷ xs) = (In x xs → ⊥) × Distinct xs
 abbrev pub Rising : {X : Type 0} → (X → X → Type 0) → List X → Type 0
 Rising R [] = Unit {0}
 Rising R (x ∷ xs) = AllByRecursion (R x) xs × Rising R xs
-
-abbrev pub any_of : {X : Type 0} → (X → Bool) → List X → Bool
-any_of t [] = false
-any_of t (x ∷ xs) = t x || any_of t xs

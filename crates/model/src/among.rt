@@ -7,10 +7,5 @@ use crate::block::PatternBlock;
 pub fn is_among(blocks: &[PatternBlock], number: usize) -> bool
     ensures { result ≡ is_among number (numbers blocks.now) }
 {
-    for block in blocks {
-        if block.0 == number {
-            return true;
-        }
-    }
-    false
+    blocks.contains(&PatternBlock(number))
 }

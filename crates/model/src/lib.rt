@@ -3,6 +3,7 @@
 
 pub mod among;
 pub mod block;
+pub mod count;
 pub mod problem;
 pub mod row;
 pub mod rule;

@@ -52,6 +52,6 @@ impl Set {
         ensures test { result ≡ same_set self other }
         ensures equal { Decides result (self ≡ other) }
     {
-        self.0 == other.0
+        self == other
     }
 }
