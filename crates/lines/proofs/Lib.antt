@@ -1,5 +1,3 @@
-pub mod Line
-pub mod Pieces
+pub mod Joins
 pub mod Places
 pub mod Tags
-pub mod Written

@@ -1,12 +1,10 @@
 -- The text of a tag set, tag by tag, and how long it is.
-use Rattle.std.proofs.Common.{◌≡◌, ℕ, zero, suc, ◌+◌, ◌*◌, ◌/◌, ◌^◌, ◌<◌, ◌≤◌, min, true, false, List, [], ◌∷◌, ◌++◌, length, take, drop, codes, decimal, sym, refl, ap, ◌∙◌, subst, ⊎_elim, add-zero, zero-add, add-one, arith}
+use Rattle.std.proofs.Common.{◌≡◌, ℕ, zero, suc, ◌+◌, ◌*◌, ◌/◌, ◌^◌, ◌<◌, ◌≤◌, min, true, false, List, [], ◌∷◌, ◌++◌, length, codes, decimal, sym, refl, ap, ◌∙◌, ⊎_elim, zero-add, add-one, arith, append_assoc, append-nil}
 use Rattle.lines.specs.GraphLines.{tag_text, tags_below}
-use Rattle.lines.proofs.Written.{wrote_more}
-use Rattle.lines.specs.Lines.{Wrote, written}
 use Rattle.sets.specs.Sets.{has}
 use Rattle.std.proofs.lemmas.List.FromFn.{map-range_with_len_more}
 use Rattle.std.proofs.lemmas.Fmt.{decimal_digit, decimal_step, length-decimal-le}
-use Rattle.std.proofs.lemmas.List.{flat_map_more, length-append, length_push, map-id, take-append-drop}
+use Rattle.std.proofs.lemmas.List.{flat_map_more, length-append, length_push, map-id}
 use Rattle.std.proofs.lemmas.Bool.{cases_lt, cond_both, cond-false, cond-true}
 use Rattle.std.specs.List.{range_with_len, flat_map}
 
@@ -15,15 +13,6 @@ length_decimal_digit n small = ap length (decimal_digit n small)
 
 pub length_decimal_step : (n : ℕ) → 10 ≤ n → n < 2 ^ 64 → length (decimal n) ≡ length (decimal (n / 10)) + 1
 length_decimal_step n long fits = ap length (decimal_step n long fits) ∙ length_push (decimal (n / 10)) _
-
--- nothing written
-pub wrote_nothing : (buffer : List ℕ) (at : ℕ) → Wrote buffer at [] buffer at
-unfolding written
-wrote_nothing buffer at =
-    record {
-      place = sym (add-zero at);
-      bytes = sym (ap (λ n. take at buffer ++ drop n buffer) (add-zero at) ∙ take-append-drop at buffer);
-    }
 
 pub tag_absent : (s k : ℕ) → has k s ≡ false → tag_text s k ≡ []
 unfolding tag_text
@@ -68,18 +57,23 @@ length_tags (suc n) s small =
     ap (λ m. length (tags_below m s)) (sym (add-one n)) ∙ ap length (sym (tags_more n s)) ∙ length-append (tags_below n s) (tag_text s n) in
     omega arith
 
--- a loop's turn: the tags below n are written, and then tag n
-pub wrote_tag : {buffer out out' : List ℕ} {at end end' : ℕ} (n s : ℕ) → at ≤ length buffer → Wrote buffer at (tags_below n s) out end → Wrote out end (tag_text s n) out' end' → Wrote buffer at (tags_below (n + 1) s) out' end'
-wrote_tag {buffer} {out} {out'} {at} {end} {end'} n s inside w w' =
-    subst (λ (text : List ℕ). Wrote buffer at text out' end') (tags_more n s) (wrote_more inside w w')
+-- a line with the tags below n, and then tag n
+module _ (old line : List ℕ) (n s : ℕ) (so_far : line ≡ old ++ tags_below n s) where
+  more : {text : List ℕ} → tag_text s n ≡ text → line ++ text ≡ old ++ tags_below (n + 1) s
+  more {text} is =
+      ap (λ xs. xs ++ text) so_far ∙ append_assoc old (tags_below n s) text ∙ ap (λ xs. old ++ (tags_below n s ++ xs)) (sym is)
+      ∙ ap (λ xs. old ++ xs) (tags_more n s)
 
-pub wrote_no_tags : (buffer : List ℕ) (at s : ℕ) → Wrote buffer at (tags_below 0 s) buffer at
-wrote_no_tags buffer at s = subst (λ (text : List ℕ). Wrote buffer at text buffer at) (sym (tags_none s)) (wrote_nothing buffer at)
+  pub tag_added : has n s ≡ true → (line ++ codes " ") ++ decimal n ≡ old ++ tags_below (n + 1) s
+  tag_added inside = append_assoc line (codes " ") (decimal n) ∙ more (tag_present s n inside)
 
-pub wrote_absent : (buffer : List ℕ) (at s k : ℕ) → has k s ≡ false → Wrote buffer at (tag_text s k) buffer at
-wrote_absent buffer at s k absent =
-    subst (λ (text : List ℕ). Wrote buffer at text buffer at) (sym (tag_absent s k absent)) (wrote_nothing buffer at)
+  pub tag_skipped : has n s ≡ false → line ≡ old ++ tags_below (n + 1) s
+  tag_skipped outside = sym (append-nil line) ∙ more (tag_absent s n outside)
 
-pub wrote_present : {buffer out out' : List ℕ} {at end end' : ℕ} (s k : ℕ) → has k s ≡ true → at ≤ length buffer → Wrote buffer at (codes " ") out end → Wrote out end (decimal k) out' end' → Wrote buffer at (tag_text s k) out' end'
-wrote_present {buffer} {out} {out'} {at} {end} {end'} s k present inside w w' =
-    subst (λ (text : List ℕ). Wrote buffer at text out' end') (sym (tag_present s k present)) (wrote_more inside w w')
+  pub length_so_far : n ≤ 24 → length line + min n 10 ≤ length old + 3 * n
+  length_so_far small =
+      let long : length line ≡ length old + length (tags_below n s) = ap length so_far ∙ length-append old (tags_below n s) in
+      omega (arith, length_tags n s small)
+
+pub length_tag_number : (k : ℕ) → k < 24 → length (decimal k) ≤ 2
+length_tag_number k small = omega (arith, length_number k small)

@@ -6,9 +6,7 @@
 --   count_line    the line that tells how many blocks and how many wires a listing has
 --   line_answer   what a call answers that is to write a line: its length, or that the buffer has under 64 bytes
 --   line_left     what the buffer holds afterwards: the line and then what stood there, or all as it was
---   written       a buffer with a text written over it from a place on
---   Wrote         a text was written over a buffer from a place on, and the answer is the place after it
-use Rattle.std.specs.Prelude.{◌≡◌, ℕ, ◌+◌, cond, List, [], ◌∷◌, ◌++◌, length, take, drop, Ok, Err, codes, decimal, Result, nat_lt}
+use Rattle.std.specs.Prelude.{ℕ, cond, List, [], ◌∷◌, ◌++◌, length, drop, Ok, Err, codes, decimal, Result, nat_lt}
 use Rattle.lines.specs.declared.fault.LineFault.{LineFault}
 use Rattle.lines.specs.declared.fault.LineFault.TheVariants.{ShortBuffer}
 use Rattle.lines.specs.declared.role.Role.{Role}
@@ -40,10 +38,3 @@ line_answer line buffer = cond (nat_lt (length buffer) 64) (Err ShortBuffer) (Ok
 
 abbrev pub line_left : List ℕ → List ℕ → List ℕ
 line_left line buffer = cond (nat_lt (length buffer) 64) buffer (line ++ drop (length line) buffer)
-
-unfoldable pub written : List ℕ → ℕ → List ℕ → List ℕ
-written buffer at text = take at buffer ++ (text ++ drop (at + length text) buffer)
-
-pub record Wrote (buffer : List ℕ) (at : ℕ) (text : List ℕ) (out : List ℕ) (after : ℕ) : Type 0 where
-  pub place : after ≡ at + length text
-  pub bytes : out ≡ written buffer at text

@@ -10,12 +10,12 @@ pub enum LineFault {
     ShortBuffer,
 }
 
-impl LineFault {
-    /// The refusal that this fault is told as: number 8, with no place.
-    pub fn refusal(self) -> Refusal
-        ensures { result ≡ refusal self }
-    {
-        match self {
+/// The refusal that a fault is told as: number 8, with no place.
+impl From<LineFault> for Refusal {
+    ghost from_gives = { λ fault told. told ≡ refusal fault };
+
+    fn from(fault: LineFault) -> Refusal {
+        match fault {
             LineFault::ShortBuffer => Refusal {
                 number: RefusalNumber(8),
                 place: None,

@@ -3,6 +3,6 @@
 
 pub mod fault;
 pub mod graph;
+mod line;
 pub mod role;
-mod text;
 pub mod write;

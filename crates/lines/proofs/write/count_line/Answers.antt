@@ -1,7 +1,9 @@
-use Rattle.lines.proofs.write.count_line.Goals as goal
-use Rattle.lines.specs.Lines.{count_line}
 use Rattle.std.proofs.Common.{rules}
+use Rattle.lines.proofs.Joins.{count_line_is}
+use Rattle.lines.proofs.write.count_line.Goals as goal
 
-pub returns : goal.returns
-unfolding count_line
-returns c = search rules
+pub returns-clause-answer : goal.returns-clause-answer
+returns-clause-answer c = let is = count_line_is c.args.role c.args.counts in search rules
+
+pub returns-clause-left : goal.returns-clause-left
+returns-clause-left c = let is = count_line_is c.args.role c.args.counts in search rules

@@ -1,7 +1,9 @@
-use Rattle.lines.proofs.write.fault_line.Goals as goal
-use Rattle.lines.specs.Lines.{fault_line}
 use Rattle.std.proofs.Common.{rules}
+use Rattle.lines.proofs.Joins.{fault_line_is}
+use Rattle.lines.proofs.write.fault_line.Goals as goal
 
-pub returns : goal.returns
-unfolding fault_line
-returns c = search rules
+pub returns-clause-answer : goal.returns-clause-answer
+returns-clause-answer c = let is = fault_line_is c.args.role c.args.number.0 c.args.place.0 in search rules
+
+pub returns-clause-left : goal.returns-clause-left
+returns-clause-left c = let is = fault_line_is c.args.role c.args.number.0 c.args.place.0 in search rules
