@@ -1,18 +1,15 @@
 -- The text of a tag set, tag by tag, and how long it is.
-use Rattle.std.proofs.Common.{◌≡◌, ℕ, zero, suc, ◌+◌, ◌*◌, ◌/◌, ◌^◌, ◌<◌, ◌≤◌, min, true, false, List, [], ◌∷◌, ◌++◌, length, codes, decimal, sym, refl, ap, ◌∙◌, ⊎_elim, zero-add, add-one, arith, append_assoc, append-nil}
+use Rattle.std.proofs.Common.{◌≡◌, ℕ, zero, suc, ◌+◌, ◌*◌, ◌<◌, ◌≤◌, min, true, false, List, [], ◌∷◌, ◌++◌, length, codes, decimal, sym, refl, ap, ◌∙◌, ⊎_elim, zero-add, add-one, arith, append_assoc, append-nil}
 use Rattle.lines.specs.GraphLines.{tag_text, tags_below}
 use Rattle.sets.specs.Sets.{has}
 use Rattle.std.proofs.lemmas.List.FromFn.{map-range_with_len_more}
-use Rattle.std.proofs.lemmas.Fmt.{decimal_digit, decimal_step, length-decimal-le}
-use Rattle.std.proofs.lemmas.List.{flat_map_more, length-append, length_push, map-id}
+use Rattle.std.proofs.lemmas.Fmt.{decimal_digit, length-decimal-le}
+use Rattle.std.proofs.lemmas.List.{flat_map_more, length-append, map-id}
 use Rattle.std.proofs.lemmas.Bool.{cases_lt, cond_both, cond-false, cond-true}
 use Rattle.std.specs.List.{range_with_len, flat_map}
 
 pub length_decimal_digit : (n : ℕ) → n < 10 → length (decimal n) ≡ 1
 length_decimal_digit n small = ap length (decimal_digit n small)
-
-pub length_decimal_step : (n : ℕ) → 10 ≤ n → n < 2 ^ 64 → length (decimal n) ≡ length (decimal (n / 10)) + 1
-length_decimal_step n long fits = ap length (decimal_step n long fits) ∙ length_push (decimal (n / 10)) _
 
 pub tag_absent : (s k : ℕ) → has k s ≡ false → tag_text s k ≡ []
 unfolding tag_text

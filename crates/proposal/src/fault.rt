@@ -1,5 +1,6 @@
 ghost use Rattle.std.specs.Prelude.{◌≡◌};
 ghost use Rattle.proposal.specs.Faults.{refusal};
+ghost use Rattle.proposal.specs.declared.fault.ProposalFault.TheVariants.{Check};
 
 use listing::fault::Fault;
 use refusal::{Refusal, RefusalNumber};
@@ -15,12 +16,20 @@ pub enum ProposalFault {
     OrderLength,
 }
 
-impl ProposalFault {
-    /// The number of a fault, and its place if it has one.
-    pub fn refusal(self) -> Refusal
-        ensures { result ≡ refusal self }
-    {
-        match self {
+impl From<Fault> for ProposalFault {
+    ghost from_gives = { λ fault found. found ≡ Check fault };
+
+    fn from(fault: Fault) -> ProposalFault {
+        ProposalFault::Check(fault)
+    }
+}
+
+/// The number of a fault, and its place if it has one.
+impl From<ProposalFault> for Refusal {
+    ghost from_gives = { λ fault told. told ≡ refusal fault };
+
+    fn from(fault: ProposalFault) -> Refusal {
+        match fault {
             ProposalFault::Check(fault) => fault.refusal(),
             ProposalFault::TooManyBlocks => Refusal {
                 number: RefusalNumber(1),
