@@ -13,9 +13,7 @@ use stores::entry::Entry;
 use stores::listing_store::ListingStore;
 use stores::row_store::RowStore;
 
-const BLOCKS: usize = 192;
-
-const STARTS: usize = 193;
+const STARTS: usize = MOST_BLOCKS + 1;
 
 const QUESTIONS: u64 = 36864;
 
@@ -23,7 +21,7 @@ const QUESTIONS: u64 = 36864;
 fn full_listing(heap: Global) -> Result<Vec<u32>, AllocError> {
     let mut words = Vec::new(heap);
     words.push(0x040000C0)?;
-    for _ in 0..BLOCKS {
+    for _ in 0..MOST_BLOCKS {
         words.push(0x40000001)?;
     }
     for wire in 0..MOST_WIRES as u32 {
@@ -38,8 +36,8 @@ fn full_listing(heap: Global) -> Result<Vec<u32>, AllocError> {
 // How many pairs of a store have a label that is not empty.
 fn wired_pairs<S: Store<Label = Set, Pair = Set>>(store: &S) -> usize {
     let mut pairs = 0usize;
-    for from in 0..BLOCKS {
-        for to in 0..BLOCKS {
+    for from in 0..MOST_BLOCKS {
+        for to in 0..MOST_BLOCKS {
             if let Some(types) = store.pair(from, to) {
                 if types.0 != 0 {
                     pairs = pairs.saturating_add(1);
@@ -65,9 +63,9 @@ fn ask_listing<'a>(
     labels: &mut [Set; MOST_BLOCKS],
 ) -> anyhow::Result<usize> {
     let mut store: ListingStore<'a> = ListingStore::empty();
-    if store.read(words).is_err() {
-        return Err(anyhow!("the listing is refused"));
-    }
+    store
+        .read(words)
+        .map_err(|_| anyhow!("the listing is refused"))?;
     let start = Instant::now(rt)?;
     let pairs = wired_pairs(&store);
     tell(rt, "pair question of the listing store", start, QUESTIONS)?;
@@ -84,9 +82,9 @@ fn ask_rows<'a>(
     labels: &'a [Set],
 ) -> anyhow::Result<()> {
     let mut store: RowStore<'a, Set> = RowStore::empty();
-    if store.fill(starts, entries, labels).is_err() {
-        return Err(anyhow!("the row store is not filled"));
-    }
+    store
+        .fill(starts, entries, labels)
+        .map_err(|_| anyhow!("the row store is not filled"))?;
     let start = Instant::now(rt)?;
     let pairs = wired_pairs(&store);
     tell(rt, "pair question of the row store", start, QUESTIONS)?;
@@ -104,9 +102,8 @@ fn main(rt: HostRuntime) -> anyhow::Result<()> {
         types: Set::EMPTY,
     }; MOST_WIRES];
     let start = Instant::now(&rt)?;
-    let Ok(laid) = layout(&words, &mut starts, &mut entries) else {
-        return Err(anyhow!("the listing is not laid out"));
-    };
+    let laid = layout(&words, &mut starts, &mut entries)
+        .map_err(|_| anyhow!("the listing is not laid out"))?;
     tell(&rt, "layout of 192 blocks and 1024 wires", start, 1)?;
     println!(rt; "layout: {laid} entries")?;
     if laid > MOST_WIRES || count > MOST_BLOCKS {

@@ -1,7 +1,7 @@
 // Prints, for pattern.bin and program.bin of this folder, what each holds or where its first fault is.
 #![tactic(auto)]
 
-use anyhow::anyhow;
+use anyhow::Context;
 use inspection::{PRINTOUT, file_graph_line, file_line, inspect};
 use lines::graph::GRAPH_LINE;
 use lines::role::Role;
@@ -27,22 +27,9 @@ fn read_file(rt: &HostRuntime, name: &str) -> io::Result<Vec<u8>> {
     Ok(bytes)
 }
 
-// The same, with the file's name in the error.
-fn read_named(rt: &HostRuntime, name: &str) -> anyhow::Result<Vec<u8>> {
-    match read_file(rt, name) {
-        Ok(bytes) => Ok(bytes),
-        Err(error) => Err(anyhow!(format!(in rt.alloc(); "{name}: {error}")?)),
-    }
-}
-
 // Whether the program was asked to show the graphs that it read.
 fn shows_graph(rt: &HostRuntime) -> io::Result<bool> {
-    for argument in env::args(rt)? {
-        if argument.as_str() == "--graph" {
-            return Ok(true);
-        }
-    }
-    Ok(false)
+    Ok(env::args(rt)?.any(|argument| argument.as_str() == "--graph"))
 }
 
 // Prints the line of a file, and then those of its graph.
@@ -61,8 +48,8 @@ fn print_graph(rt: &HostRuntime, role: Role, bytes: &[u8]) -> io::Result<()> {
 }
 
 fn run(rt: &HostRuntime) -> anyhow::Result<()> {
-    let pattern = read_named(rt, "pattern.bin")?;
-    let program = read_named(rt, "program.bin")?;
+    let pattern = read_file(rt, "pattern.bin").context("pattern.bin")?;
+    let program = read_file(rt, "program.bin").context("program.bin")?;
     if shows_graph(rt)? {
         print_graph(rt, Role::Pattern, &pattern)?;
         print_graph(rt, Role::Program, &program)?;
@@ -76,7 +63,7 @@ fn run(rt: &HostRuntime) -> anyhow::Result<()> {
 
 fn main(rt: HostRuntime) -> io::Result<ExitCode> {
     if let Err(error) = run(&rt) {
-        eprintln!(rt; "inspect: {error}")?;
+        eprintln!(rt; "inspect: {error:#}")?;
         return Ok(ExitCode::FAILURE);
     }
     Ok(ExitCode::SUCCESS)

@@ -2,6 +2,7 @@
 use listing::check::check as check_words;
 use listing::counts::Counts;
 use listing::fault::Fault;
+use refusal::{Place, Refusal};
 use std::alloc::{AllocError, Global};
 use std::test::Fail;
 
@@ -31,11 +32,8 @@ pub fn told(answer: Result<Counts, Fault>) -> (usize, usize) {
     match answer {
         Ok(_) => (0, 0),
         Err(fault) => {
-            let refusal = fault.refusal();
-            match refusal.place {
-                Some(place) => (refusal.number.0, place.0),
-                None => (refusal.number.0, 0),
-            }
+            let refusal = Refusal::from(fault);
+            (refusal.number.0, refusal.place.unwrap_or(Place(0)).0)
         }
     }
 }
@@ -71,9 +69,9 @@ const SIZES: [(u32, u32, usize); 12] = [
 
 #[test]
 fn sizes(rt: HostRuntime) -> Result<(), Fail> {
-    for size in SIZES {
-        let words = listing_of(rt.alloc(), size.0, size.1)?;
-        assert_eq!(rt; told(check_words(&words)).0, size.2);
+    for (blocks, wires, number) in SIZES {
+        let words = listing_of(rt.alloc(), blocks, wires)?;
+        assert_eq!(rt; told(check_words(&words)).0, number);
     }
     Ok(())
 }
@@ -126,11 +124,11 @@ const CHANGES: [(usize, u32, usize, usize); 42] = [
 
 #[test]
 fn one_word_changed(rt: HostRuntime) {
-    for change in CHANGES {
+    for (at, word, number, place) in CHANGES {
         let mut words = FORK;
-        assert!(rt; change.0 < 7);
-        words[change.0] = change.1;
-        assert_eq!(rt; told(check_words(&words)), (change.2, change.3));
+        assert!(rt; at < 7);
+        words[at] = word;
+        assert_eq!(rt; told(check_words(&words)), (number, place));
     }
 }
 
@@ -145,12 +143,12 @@ const TWO_CHANGES: [(usize, u32, usize, u32, usize, usize); 5] = [
 
 #[test]
 fn two_words_changed(rt: HostRuntime) {
-    for change in TWO_CHANGES {
+    for (at, word, other, put, number, place) in TWO_CHANGES {
         let mut words = FORK;
-        assert!(rt; change.0 < 7 && change.2 < 7);
-        words[change.0] = change.1;
-        words[change.2] = change.3;
-        assert_eq!(rt; told(check_words(&words)), (change.4, change.5));
+        assert!(rt; at < 7 && other < 7);
+        words[at] = word;
+        words[other] = put;
+        assert_eq!(rt; told(check_words(&words)), (number, place));
     }
 }
 

@@ -33,10 +33,10 @@ const ZEROES: [(usize, usize, usize); 12] = [
 
 #[test]
 fn lengths(rt: HostRuntime) -> Result<(), Fail> {
-    for case in ZEROES {
-        let bytes = vec![in rt.alloc(); 0u8; case.0]?;
+    for (length, number, place) in ZEROES {
+        let bytes = vec![in rt.alloc(); 0u8; length]?;
         let mut memory = [7; FILE_WORDS];
-        assert_eq!(rt; told(check_file(&bytes, &mut memory)), (case.1, case.2));
+        assert_eq!(rt; told(check_file(&bytes, &mut memory)), (number, place));
     }
     Ok(())
 }

@@ -6,6 +6,7 @@ use model::block::PatternBlock;
 use model::store::Store;
 use proposal::fault::ProposalFault;
 use proposal::order::propose;
+use refusal::Refusal;
 use sets::Set;
 use std::process::Abort;
 use std::test::Fail;
@@ -87,7 +88,7 @@ fn layout_wants_room(rt: HostRuntime) {
     assert_eq!(rt; four, [7, 7, 7, 7]);
     assert_eq!(rt; layout(&FORK, &mut four, &mut two), Ok(2));
     assert_eq!(rt; four, [0, 2, 2, 2]);
-    assert_eq!(rt; LayoutFault::ShortStarts.refusal().number.0, 18);
+    assert_eq!(rt; Refusal::from(LayoutFault::ShortStarts).number.0, 18);
 }
 
 // Starts, the block of the one entry, how many labels, and what filling answers.
@@ -109,13 +110,10 @@ fn filled<'a>(starts: &'a [u16], entries: &'a [Entry], labels: &'a [Set]) -> Opt
 #[test]
 fn fills(rt: HostRuntime) {
     let labels = [Set(1); 3];
-    for case in FILLS {
-        let entries = [Entry {
-            to: case.1,
-            types: Set(1),
-        }];
-        assert!(rt; case.2 < 4);
-        assert_eq!(rt; filled(&case.0, &entries, &labels[0..case.2]), case.3);
+    for (starts, to, count, fault) in FILLS {
+        let entries = [Entry { to, types: Set(1) }];
+        assert!(rt; count < 4);
+        assert_eq!(rt; filled(&starts, &entries, &labels[0..count]), fault);
     }
     assert_eq!(rt; filled(&[0; 193], &[], &[Set(1); 192]), None);
     assert_eq!(rt;
@@ -156,11 +154,9 @@ fn unions<'a>(rt: &impl Abort, starts: &'a [u16], entries: &'a [Entry], labels: 
 }
 
 fn numbers(order: &[PatternBlock]) -> usize {
-    let mut all = 0usize;
-    for block in order {
-        all = all.saturating_mul(10).saturating_add(block.0);
-    }
-    all
+    order.iter().fold(0usize, |all, block| {
+        all.saturating_mul(10).saturating_add(block.0)
+    })
 }
 
 // A path of four blocks, wired 1 to 3, 3 to 0 and 0 to 2: its middle blocks are 0 and 3.
@@ -187,6 +183,6 @@ fn orders(rt: HostRuntime) -> Result<(), Fail> {
         propose(&listing_of(rt.alloc(), 9, 0)?, &mut nine),
         Err(ProposalFault::TooManyBlocks)
     );
-    assert_eq!(rt; ProposalFault::TooManyBlocks.refusal().number.0, 1);
+    assert_eq!(rt; Refusal::from(ProposalFault::TooManyBlocks).number.0, 1);
     Ok(())
 }
