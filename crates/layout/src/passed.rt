@@ -4,3 +4,8 @@ pub struct Passed {
     pub wires: usize,
     pub pairs: usize,
 }
+
+impl Passed {
+    /// A pass that has not begun.
+    pub const NONE: Passed = Passed { wires: 0, pairs: 0 };
+}

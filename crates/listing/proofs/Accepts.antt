@@ -1,34 +1,18 @@
 -- The check accepts exactly the listings: where no fault fits, each word is what it has to be, and the other way round.
-use Rattle.std.proofs.Common.{◌≡◌, ℕ, zero, suc, ◌+◌, ◌-◌, ◌<◌, ◌≤◌, Bool, true, false, not, ◌&&◌, eqb, ltb, leb, ◌⊎◌, List, [], ◌∷◌, ◌++◌, length, Ok, sym, refl, ap, ◌∙◌, subst, inl, inr, ⊎_elim, arith}
-use Rattle.std.specs.List.{range_with_len, flat_map, AllByRecursion}
-use Rattle.std.proofs.lemmas.Bool.{ltb-true, leb-true, leb-false, lt-ltb, le-leb, eq-eqb, lt-leb, le-ltb, eqb-true, not-false, and_parts, and_from, not_from_true, or_from, both_ways, cases_order}
+use Rattle.std.proofs.Common.{◌≡◌, ℕ, ◌+◌, ◌-◌, ◌<◌, ◌≤◌, Bool, true, false, not, ◌&&◌, eqb, ltb, leb, List, length, Ok, sym, refl, ap, ◌∙◌, subst, inl, inr, arith}
+use Rattle.std.specs.List.{range_with_len, flat_map, find}
+use Rattle.std.proofs.lemmas.Bool.{ltb-true, leb-true, leb-false, lt-ltb, le-leb, eq-eqb, lt-leb, le-ltb, eqb-true, not-false, and_parts, and_from, not_from_true, or_from, both_ways}
+use Rattle.lists.specs.Members.{In}
+use Rattle.lists.proofs.Members.{in_append_right, in_joined}
+use Rattle.lists.proofs.Ranges.{in_counting}
 use Rattle.listing.specs.declared.counts.Counts.{Counts}
 use Rattle.listing.specs.declared.fault.Fault.{Fault}
 use Rattle.listing.specs.declared.fault.Fault.TheVariants.{WordCount, Opening, Total, Block, Wire, Rise, Closing, PartialWord}
 use Rattle.listing.specs.Words.{is_block, is_wire, is_closing}
 use Rattle.listing.specs.Listings.{Listing, word, counts_of}
-use Rattle.listing.specs.Faults.{fits, faults_at, ranked, first_that, answered, verdict}
+use Rattle.listing.specs.Faults.{at, fits, opening_faults, faults_at, ranked, answered, verdict}
 use Rattle.listing.specs.Checks.{Accepts}
-use Rattle.listing.proofs.Verdicts.{none_all, all_none, answered_none}
-
--- ---- what holds of every fault of a list
-all_left : {X : Type 0} (P : X → Type 0) (xs ys : List X) → AllByRecursion P (xs ++ ys) → AllByRecursion P xs
-all_left P [] ys a = tt
-all_left P (x ∷ xs) ys a = (a.0, all_left P xs ys a.1)
-
-all_right : {X : Type 0} (P : X → Type 0) (xs ys : List X) → AllByRecursion P (xs ++ ys) → AllByRecursion P ys
-all_right P [] ys a = a
-all_right P (x ∷ xs) ys a = all_right P xs ys a.1
-
-all_places : (P : Fault → Type 0) (n p : ℕ) → AllByRecursion P (flat_map faults_at (range_with_len p n)) → (q : ℕ) → p ≤ q → q < p + n → AllByRecursion P (faults_at q)
-all_places P zero p a q low high = absurd (omega arith)
-all_places P (suc n) p a q low high =
-    ⊎_elim (λ e. subst (λ k. AllByRecursion P (faults_at k)) e (all_left P (faults_at p) (flat_map faults_at (range_with_len (p + 1) n)) a))
-    (λ l. all_places P n (p + 1) (all_right P (faults_at p) (flat_map faults_at (range_with_len (p + 1) n)) a) q (omega arith) (omega arith))
-    (here_or_later p q low)
-  where
-    here_or_later : (a b : ℕ) → a ≤ b → (a ≡ b) ⊎ (a < b)
-    here_or_later a b h = ⊎_elim inl (⊎_elim inr (λ l. absurd (omega arith))) (cases_order a b)
+use Rattle.listing.proofs.Verdicts.{none_each, each_none, answered_none}
 
 -- ---- no fault fits: the words are a listing
 excused : (a b : Bool) → (a && not b) ≡ false → a ≡ true → b ≡ true
@@ -40,7 +24,7 @@ unlike : (a b : Bool) → (a && b) ≡ false → a ≡ true → b ≡ false
 unlike true b e h = e
 unlike false b e h = absurd (both_ways false refl h)
 
-module _ (ws : List ℕ) (sound : AllByRecursion (λ f. fits ws f ≡ false) (ranked (length ws))) where
+module _ (ws : List ℕ) (sound : (f : Fault) → In f (ranked (length ws)) → fits ws f ≡ false) where
   abbrev blocks : ℕ
   blocks = (counts_of ws).blocks
 
@@ -48,38 +32,39 @@ module _ (ws : List ℕ) (sound : AllByRecursion (λ f. fits ws f ≡ false) (ra
   wires = (counts_of ws).wires
 
   total : length ws ≡ blocks + wires + 2
-  total = eqb-true (length ws) (blocks + wires + 2) (not-false _ sound.1.1.0)
+  total = eqb-true (length ws) (blocks + wires + 2) (not-false _ (sound Total (inr (inr (inl refl)))))
 
-  at_place : (p : ℕ) → 0 < p → p < length ws → AllByRecursion (λ f. fits ws f ≡ false) (faults_at p)
-  at_place p low high =
-      all_places (λ f. fits ws f ≡ false) (length ws - 1) 1 sound.1.1.1 p low (omega arith)
+  at_place : (p : ℕ) (f : Fault) → 0 < p → p < length ws → In f (faults_at p) → fits ws f ≡ false
+  at_place p f low high i =
+      sound f (in_append_right opening_faults (flat_map faults_at (range_with_len 1 (length ws - 1))) f
+      (in_joined faults_at (range_with_len 1 (length ws - 1)) p f (in_counting 1 (length ws - 1) p (omega arith) (omega arith)) i))
 
   listing_from_none : Listing ws (counts_of ws)
   listing_from_none =
       let long = total in
       record {
-        opening = not-false _ sound.1.0;
+        opening = not-false _ (sound Opening (inr (inl refl)));
         counts = refl;
         total = long;
         block = λ v h.
             excused (ltb 0 (1 + v) && leb (1 + v) blocks) (is_block (word ws (1 + v)))
-            (at_place (1 + v) (omega arith) (omega arith)).0
+            (at_place (1 + v) (Block (at (1 + v))) (omega arith) (omega arith) (inl refl))
             (and_from _ _ (lt-ltb 0 (1 + v) (omega arith)) (le-leb (1 + v) blocks (omega arith)));
         wire = λ e h.
             let p : ℕ = 1 + blocks + e in
             excused (ltb blocks p && leb p (blocks + wires)) (is_wire blocks (word ws p))
-            (at_place p (omega arith) (omega arith)).1.0
+            (at_place p (Wire (at p)) (omega arith) (omega arith) (inr (inl refl)))
             (and_from _ _ (lt-ltb blocks p (omega arith)) (le-leb p (blocks + wires) (omega arith)));
         rising = λ e h.
             let p : ℕ = 1 + blocks + (e + 1) in
             let before : p - 1 ≡ 1 + blocks + e = omega arith in
-            let falls = unlike (ltb (blocks + 1) p && leb p (blocks + wires)) (leb (word ws p) (word ws (p - 1))) (at_place p (omega arith) (omega arith)).1.1.0
+            let falls = unlike (ltb (blocks + 1) p && leb p (blocks + wires)) (leb (word ws p) (word ws (p - 1))) (at_place p (Rise (at p)) (omega arith) (omega arith) (inr (inr (inl refl))))
             (and_from _ _ (lt-ltb (blocks + 1) p (omega arith)) (le-leb p (blocks + wires) (omega arith))) in
             subst (λ k. word ws k < word ws p) before (leb-false (word ws p) (word ws (p - 1)) falls);
         closing =
             let p : ℕ = blocks + wires + 1 in
             excused (eqb p (blocks + wires + 1)) (is_closing p (word ws p))
-            (at_place p (omega arith) (omega arith)).1.1.1.0 (eq-eqb p (blocks + wires + 1) refl);
+            (at_place p (Closing (at p)) (omega arith) (omega arith) (inr (inr (inr (inl refl))))) (eq-eqb p (blocks + wires + 1) refl);
       }
 
 -- ---- the words are a listing: no fault fits
@@ -139,10 +124,6 @@ module _ (ws : List ℕ) (listing : Listing ws (counts_of ws)) where
       not_from_true _ (subst (λ k. is_closing k (word ws k) ≡ true) (sym e) listing.closing))
   none_from_listing (PartialWord p) = refl
 
-all_of : {X : Type 0} (P : X → Type 0) → ((x : X) → P x) → (xs : List X) → AllByRecursion P xs
-all_of P h [] = tt
-all_of P h (x ∷ xs) = (h x, all_of P h xs)
-
 -- ---- the theorem
 pub no_fault : (ws : List ℕ) (c : Counts) → Listing ws c → (f : Fault) → fits ws f ≡ false
 no_fault ws c l = none_from_listing ws (subst (Listing ws) (sym l.counts) l)
@@ -151,8 +132,8 @@ pub accepts : (ws : List ℕ) → Accepts ws (verdict ws)
 unfolding verdict
 accepts ws c = (
   λ e.
-      let p = answered_none c (counts_of ws) (first_that (fits ws) (ranked (length ws))) (sym e) in
-      subst (Listing ws) (sym p.1) (listing_from_none ws (none_all (fits ws) (ranked (length ws)) p.0)),
+      let p = answered_none c (counts_of ws) (find (fits ws) (ranked (length ws))) (sym e) in
+      subst (Listing ws) (sym p.1) (listing_from_none ws (none_each (fits ws) (ranked (length ws)) p.0)),
   λ l.
-      ap (answered (counts_of ws)) (all_none (fits ws) (ranked (length ws)) (all_of _ (no_fault ws c l) (ranked (length ws)))) ∙ ap Ok l.counts,
+      ap (answered (counts_of ws)) (each_none (fits ws) (ranked (length ws)) (λ f i. no_fault ws c l f)) ∙ ap Ok l.counts,
 )

@@ -1,10 +1,11 @@
 -- Reading the words of a file one by one.
-use Rattle.std.proofs.Common.{◌≡◌, ℕ, ◌+◌, ◌-◌, ◌/◌, ◌%◌, ◌<◌, min, Bool, true, false, cond, List, ◌++◌, length, get_or, take, drop, set, Ok, Err, sym, refl, ap, ◌∙◌, zero-add, arith}
+use Rattle.std.proofs.Common.{◌≡◌, ℕ, zero, suc, ◌+◌, ◌*◌, ◌/◌, ◌%◌, ◌<◌, min, Bool, true, false, cond, eqb, List, ◌++◌, length, get_or, take, drop, set, Ok, Err, sym, refl, ap, ◌∙◌, ap₂, zero-add, arith}
 use lib.Seq.{paste}
-use Rattle.std.proofs.lemmas.List.{length-take, take_at}
+use Rattle.std.specs.Simd.{first_chunks}
+use Rattle.std.proofs.lemmas.List.{length-take, take_at, take_min, drop-drop, get_or-take, get_or-drop}
 use Rattle.std.proofs.lemmas.List.Edits.{paste_more, paste_all}
 use Rattle.std.proofs.lemmas.List.FromFn.{length-map-range_with_len, get_or-map-range_with_len}
-use Rattle.std.proofs.lemmas.Bool.{cond-true, eq-eqb, ne_eqb}
+use Rattle.std.proofs.lemmas.Bool.{cond-true}
 use Rattle.listing.specs.declared.fault.Fault.{Fault}
 use Rattle.listing.specs.declared.fault.Fault.TheVariants.{PartialWord}
 use Rattle.listing.specs.Faults.{at, verdict}
@@ -37,19 +38,35 @@ words_all bs m n e whole =
     paste_all m 0 (file_words bs) n (e ∙ sym (length-file_words bs))
     ∙ ap (λ k. file_words bs ++ drop k m) (zero-add n ∙ e) ∙ sym (cond-true (is_whole bs) _ _ whole)
 
--- ---- what is answered, by the number of bytes that are read
+-- ---- the chunks of four bytes of what is read
+chunk_at : {X : Type 0} (k : ℕ) (xs : List X) (i : ℕ) (d : List X) → i < k → get_or (first_chunks 4 k xs) i d ≡ take 4 (drop (4 * i) xs)
+chunk_at zero xs i d h = absurd (omega arith)
+chunk_at (suc k) xs zero d h = refl
+chunk_at (suc k) xs (suc i) d h =
+    let step : 4 + 4 * i ≡ 4 * suc i = omega arith in
+    chunk_at k (drop 4 xs) i d (omega arith) ∙ ap (take 4) (drop-drop (4 * i) 4 xs ∙ ap (λ m. drop m xs) step)
+
 module _ (bs : List ℕ) (n : ℕ) (e : n ≡ min (length bs) 4876) where
-  long : length (taken bs) ≡ n
-  long = length_taken bs ∙ sym e
+  cut : take n bs ≡ taken bs
+  cut = let m : n ≡ min 4876 (length bs) = omega arith in ap (λ k. take k bs) m ∙ take_min 4876 bs
 
-  pub words_of : whole_words bs ≡ n / 4
-  words_of = ap (λ k. k / 4) long
+  pub words_of : length (take n bs) / 4 ≡ whole_words bs
+  words_of = ap (λ xs. length xs / 4) cut
 
-  pub whole_from : n % 4 ≡ 0 → is_whole bs ≡ true
-  whole_from h = eq-eqb _ 0 (ap (λ k. k % 4) long ∙ h)
+  -- what is left after the chunks
+  pub whole_is : (m : ℕ) → m ≡ length (take n bs) % 4 → is_whole bs ≡ eqb m 0
+  whole_is m h = ap (λ k. eqb k 0) (ap (λ xs. length xs % 4) (sym cut) ∙ sym h)
 
-  pub broken_from : (n % 4 ≡ 0 → ⊥) → is_whole bs ≡ false
-  broken_from h = ne_eqb _ 0 (λ z. h (sym (ap (λ k. k % 4) long) ∙ z))
+  -- a chunk is the four bytes of a word
+  pub chunk_word : (i : ℕ) (d : List ℕ) → i < length (take n bs) / 4 → word_at (get_or (first_chunks 4 (length (take n bs) / 4) (take n bs)) i d) 0 ≡ word_at bs i
+  chunk_word i d h =
+      let none : 4 * i + 0 ≡ 4 * i = omega arith in
+      ap (λ c. word_at c 0) (chunk_at (length (take n bs) / 4) (take n bs) i d h) ∙ ap₂ ◌+◌ (ap₂ ◌+◌ (ap₂ ◌+◌ (ap (λ b. b * 16777216) (byte 0 (omega arith) ∙ ap (λ k. get_or bs k 0) none)) (ap (λ b. b * 65536) (byte 1 (omega arith)))) (ap (λ b. b * 256) (byte 2 (omega arith)))) (byte 3 (omega arith))
+    where
+      byte : (j : ℕ) → j < 4 → get_or (take 4 (drop (4 * i) (take n bs))) j 0 ≡ get_or bs (4 * i + j) 0
+      byte j l =
+          let long = length-take n bs in
+          get_or-take 4 (drop (4 * i) (take n bs)) j 0 l ∙ get_or-drop (4 * i) (take n bs) j 0 ∙ get_or-take n bs (4 * i + j) 0 (omega arith)
 
 -- ---- from the answer to what the file is
 pub verdict_from_fault : (bs : List ℕ) (f : Fault) → Err f ≡ read_answer bs → file_verdict bs ≡ Err f
@@ -58,7 +75,7 @@ verdict_from_fault bs f = go (is_whole bs)
   where
     go : (b : Bool) → Err f ≡ cond b (Ok (whole_words bs)) (Err (PartialWord (at (whole_words bs))))
         → cond b (verdict (file_words bs)) (Err (PartialWord (at (whole_words bs)))) ≡ Err f
-    go true e = let z : ◌≡◌ {A = ℕ} 0 1 = cc in absurd (omega arith)
+    go true e = absurd (cc)
     go false e = cc
 
 pub whole_from_answer : (bs : List ℕ) (n : ℕ) → Ok n ≡ read_answer bs → (is_whole bs ≡ true) × (n ≡ whole_words bs)
@@ -67,15 +84,14 @@ whole_from_answer bs n e = go (is_whole bs) refl e
     go : (b : Bool) → is_whole bs ≡ b → Ok n ≡ cond b (Ok (whole_words bs)) (Err (PartialWord (at (whole_words bs))))
         → (is_whole bs ≡ true) × (n ≡ whole_words bs)
     go true h x = (h, cc)
-    go false h x = let z : ◌≡◌ {A = ℕ} 0 1 = cc in absurd (omega arith)
+    go false h x = absurd (cc)
 
 -- the words that were read stand at the front of the memory
-pub front_is_words : (bs m : List ℕ) (n : ℕ) → Ok n ≡ read_answer bs → take (n - 0) (read_left bs m) ≡ file_words bs
+pub front_is_words : (bs m : List ℕ) (n : ℕ) → Ok n ≡ read_answer bs → take n (read_left bs m) ≡ file_words bs
 front_is_words bs m n e =
     let p = whole_from_answer bs n e in
-    let size : n - 0 ≡ whole_words bs = let q = p.1 in omega arith in
-    ap (take (n - 0)) (cond-true (is_whole bs) _ _ p.0)
-    ∙ take_at (file_words bs) (drop (whole_words bs) m) (n - 0) (length-file_words bs ∙ sym size)
+    ap (take n) (cond-true (is_whole bs) _ _ p.0)
+    ∙ take_at (file_words bs) (drop (whole_words bs) m) n (length-file_words bs ∙ sym p.1)
 
 pub verdict_from_words : (bs : List ℕ) (n : ℕ) → Ok n ≡ read_answer bs → file_verdict bs ≡ verdict (file_words bs)
 unfolding file_verdict

@@ -2,7 +2,6 @@ pub mod Verdicts
 pub mod Accepts
 pub mod Refuses
 pub mod Fields
-pub mod Rising
 pub mod Parts
 pub mod States
 pub mod Unique

@@ -1,14 +1,15 @@
 -- The block words and the wire words of a listing, place by place.
 use Rattle.std.proofs.Common.{◌≡◌, ℕ, ◌+◌, ◌<◌, ◌≤◌, true, List, map, length, get_or, take, drop, Some, sym, ap, ◌∙◌, subst, arith}
-use Rattle.std.specs.List.{AllByRecursion, slice_get}
+use Rattle.std.specs.List.{slice_get}
 use Rattle.std.proofs.lemmas.List.{length-take-le, length-drop, get_or-take, get_or-drop, length-map, get_or-map}
-use Rattle.std.proofs.ByRecursion.{All-from_get_or}
 use Rattle.std.proofs.lemmas.Option.{slice_get-get_or}
 use Rattle.sets.specs.Sets.{set}
 use Rattle.listing.specs.Words.{is_wire}
 use Rattle.listing.specs.Listings.{Listing, word, counts_of, block_words, wire_words}
 use Rattle.listing.specs.Graphs.{tag_set}
-use Rattle.listing.proofs.Rising.{Rising, rising_from_places}
+use Rattle.lists.specs.Members.{In, Rising}
+use Rattle.lists.proofs.Members.{in_get_or}
+use Rattle.lists.proofs.Ranges.{rising_from_places}
 
 -- a part of a list, place by place
 length_part : (ws : List ℕ) (a n : ℕ) → a + n ≤ length ws → length (take n (drop a ws)) ≡ n
@@ -43,13 +44,14 @@ module _ (ws : List ℕ) (l : Listing ws (counts_of ws)) where
       slice_get-get_or (map tag_set (block_words ws)) v (set 0) (omega arith)
       ∙ ap Some (get_or-map tag_set (block_words ws) v 0 (set 0) (omega arith) ∙ ap tag_set (get_or_part ws 1 b v h))
 
-  pub all_wires : AllByRecursion (λ w. is_wire b w ≡ true) (wire_words ws)
-  all_wires =
+  pub all_wires : (w : ℕ) → In w (wire_words ws) → is_wire b w ≡ true
+  all_wires w i =
       let m = length-wire_words in
-      All-from_get_or (λ w. is_wire b w ≡ true) (wire_words ws) 0
-      (λ e h. subst (λ w. is_wire b w ≡ true) (sym (get_or-wire_words e (omega arith))) (l.wire e (omega arith)))
+      let r = in_get_or (wire_words ws) w 0 i in
+      let below : r.0 < n = let h = r.1 in omega arith in
+      subst (λ x. is_wire b x ≡ true) (sym (get_or-wire_words r.0 below) ∙ r.2) (l.wire r.0 below)
 
-  pub rising_wires : Rising (wire_words ws)
+  pub rising_wires : Rising ◌<◌ (wire_words ws)
   rising_wires =
       let m = length-wire_words in
       rising_from_places (wire_words ws) (λ e h.

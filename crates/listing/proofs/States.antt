@@ -9,7 +9,8 @@ use Rattle.sets.specs.Sets.{has, set_of, Member}
 use Rattle.listing.specs.Graphs.{runs, wired, type_set, stated}
 use Rattle.listing.specs.Checks.{wire_word, Laid, States}
 use Rattle.sets.proofs.Membership.{has-set_of, has-set_of_past}
-use Rattle.listing.proofs.Rising.{In, any_in, in_any, in_get_or, get_or_in}
+use Rattle.lists.specs.Members.{In}
+use Rattle.lists.proofs.Members.{any_in, in_any, in_get_or, get_or_in}
 use Rattle.listing.proofs.Parts.{length-wire_words, get_or-wire_words, length_tags, slice_get_tags}
 
 -- what a wire word tells of the wire that it lays
@@ -46,7 +47,7 @@ module _ (ws : List ℕ) (l : Listing ws (counts_of ws)) where
   unfolding stated
   laid_from u v k e =
       let found = any_in (runs u v k) (wire_words ws) (has_wired ws u v k e.1) in
-      let there = in_get_or (wire_words ws) found.0 found.1 in
+      let there = in_get_or (wire_words ws) found.0 0 found.1 in
       let long = length-wire_words ws l in
       let inside : there.0 < (counts_of ws).wires = let h = there.1 in omega arith in
       let is = sym (get_or-wire_words ws l there.0 inside) ∙ there.2 in
@@ -59,7 +60,7 @@ module _ (ws : List ℕ) (l : Listing ws (counts_of ws)) where
       let long = length-wire_words ws l in
       let is = get_or-wire_words ws l e h in
       let here : In (wire_word ws (counts_of ws) e) (wire_words ws) =
-      subst (λ w. In w (wire_words ws)) is (get_or_in (wire_words ws) e (omega arith)) in
+      subst (λ w. In w (wire_words ws)) is (get_or_in (wire_words ws) e 0 (omega arith)) in
       wired_member ws u v k (wire_word ws (counts_of ws) e) here (so_runs u v k (wire_word ws (counts_of ws) e) f t s)
 
   states_own : States ws (counts_of ws)

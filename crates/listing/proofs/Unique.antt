@@ -1,9 +1,9 @@
 -- No graph has two listings.
-use Rattle.std.proofs.Common.{◌≡◌, ℕ, ◌+◌, ◌-◌, ◌<◌, true, List, map, length, get_or, Some, sym, refl, ap, ◌∙◌, subst, ⊎_elim, arith}
+use Rattle.std.proofs.Common.{◌≡◌, ℕ, ◌+◌, ◌-◌, ◌<◌, List, map, length, get_or, Some, sym, refl, ap, ◌∙◌, subst, ⊎_elim, arith}
 use Rattle.std.proofs.lemmas.List.{ext_get_or}
 use Rattle.std.proofs.lemmas.Bool.{cases_lt, cases_eq}
 use Rattle.listing.specs.declared.counts.Counts.{Counts}
-use Rattle.listing.specs.Words.{block_tags, wire_from, wire_to, wire_type, is_wire}
+use Rattle.listing.specs.Words.{block_tags, wire_from, wire_to, wire_type}
 use Rattle.listing.specs.Listings.{Listing, word, counts_of, wire_words, block_words}
 use Rattle.sets.specs.Sets.{has}
 use Rattle.sets.specs.declared.Set.{Set}
@@ -11,7 +11,9 @@ use Rattle.std.specs.List.{slice_get}
 use Rattle.listing.specs.Graphs.{runs, tag_set, type_set, stated, SameGraph}
 use Rattle.listing.specs.Checks.{OnlyListing}
 use Rattle.listing.proofs.Fields.{opening_is, block_is, wire_is, wire_ends, closing_is}
-use Rattle.listing.proofs.Rising.{In, any_in, in_all, same_rising}
+use Rattle.lists.specs.Members.{In}
+use Rattle.lists.proofs.Members.{any_in}
+use Rattle.lists.proofs.Rising.{same_rising}
 use Rattle.listing.proofs.Parts.{length-wire_words, get_or-wire_words, length_tags, slice_get_tags, all_wires, rising_wires}
 use Rattle.listing.proofs.States.{runs_so, so_runs, has_wired, wired_member}
 
@@ -42,7 +44,7 @@ turned ws vs a =
 wire_across : (ws vs : List ℕ) → Alike ws vs → (w : ℕ) → In w (wire_words ws) → In w (wire_words vs)
 wire_across ws vs a w i =
     let b : ℕ = (counts_of ws).blocks in
-    let good = in_all (λ x. is_wire b x ≡ true) (wire_words ws) w (all_wires ws a.left) i in
+    let good = all_wires ws a.left w i in
     let ends = wire_ends b w good in
     let u : ℕ = wire_from w in
     let v : ℕ = wire_to w in
@@ -51,7 +53,7 @@ wire_across ws vs a w i =
     let moved = ap (λ s. has k s.0) (sym (a.types u v ends.0 ends.1)) ∙ member in
     let found = any_in (runs u v k) (wire_words vs) (has_wired vs u v k moved) in
     let so = runs_so u v k found.0 found.2 in
-    let good' = in_all (λ x. is_wire (counts_of vs).blocks x ≡ true) (wire_words vs) found.0 (all_wires vs a.right) found.1 in
+    let good' = all_wires vs a.right found.0 found.1 in
     let one = wire_is b w good in
     let two = wire_is (counts_of vs).blocks found.0 good' in
     let f = so.from in
@@ -62,7 +64,7 @@ wire_across ws vs a w i =
 
 same_wire_words : (ws vs : List ℕ) → Alike ws vs → wire_words ws ≡ wire_words vs
 same_wire_words ws vs a =
-    same_rising (wire_words ws) (wire_words vs) (rising_wires ws a.left) (rising_wires vs a.right)
+    same_rising ◌<◌ (λ x y l m. omega arith) (wire_words ws) (wire_words vs) (rising_wires ws a.left) (rising_wires vs a.right)
     (wire_across ws vs a) (wire_across vs ws (turned ws vs a))
 
 module _ (ws vs : List ℕ) (a : Alike ws vs) where

@@ -11,12 +11,11 @@
 --   opening_faults    the faults at place 0, lowest number first
 --   faults_at p       the faults that a word after the first can have at place p, lowest number first
 --   ranked n          every fault that n words can have, each before those that it comes before
---   first_that t xs   the first of xs that passes the test t
 --   at p              the place p
 --   answered c f      the answer where f is the first fault: f, or the counts c where there is none
 --   verdict ws        the first of the faults of ws; where there is none, the two counts
-use Rattle.std.specs.Prelude.{◌≡◌, ℕ, ◌+◌, ◌-◌, ◌<◌, Bool, true, false, cond, not, ◌&&◌, ◌||◌, ◌⊎◌, List, [], ◌∷◌, ◌++◌, length, Some, None, Ok, Err, Option, Result, ◌==◌, nat_le, nat_lt}
-use Rattle.std.specs.List.{range_with_len, flat_map}
+use Rattle.std.specs.Prelude.{◌≡◌, ℕ, ◌+◌, ◌-◌, ◌<◌, Bool, true, false, not, ◌&&◌, ◌||◌, ◌⊎◌, List, [], ◌∷◌, ◌++◌, length, Some, None, Ok, Err, Option, Result, ◌==◌, nat_le, nat_lt}
+use Rattle.std.specs.List.{range_with_len, flat_map, find}
 use Rattle.std.specs.Option.{unwrap_or}
 use Rattle.listing.specs.declared.counts.Counts.{Counts}
 use Rattle.refusal.specs.Refusals.{placed}
@@ -83,13 +82,9 @@ opening_faults = WordCount ∷ Opening ∷ Total ∷ []
 abbrev pub ranked : ℕ → List Fault
 ranked n = opening_faults ++ flat_map faults_at (range_with_len 1 (n - 1))
 
-abbrev pub first_that : {X : Type 0} → (X → Bool) → List X → Option X
-first_that t [] = None
-first_that t (x ∷ xs) = cond (t x) (Some x) (first_that t xs)
-
 abbrev pub answered : Counts → Option Fault → Result Counts Fault
 answered c None = Ok c
 answered c (Some f) = Err f
 
 unfoldable pub verdict : List ℕ → Result Counts Fault
-verdict ws = answered (counts_of ws) (first_that (fits ws) (ranked (length ws)))
+verdict ws = answered (counts_of ws) (find (fits ws) (ranked (length ws)))

@@ -2,14 +2,14 @@
 --
 --   leads u v w       the wire word w lays a wire from u to v
 --   runs u v k w      the wire word w lays a wire of type k from u to v
---   any_of t ws       the test t passes at one of the words
 --   wired ws u v k    one of the wire words lays such a wire
 --   stated ws         the graph that the words state: each block is labelled with its tag set, and each ordered pair of
 --                     blocks with the set of the types of the wires from the one to the other
 --   tag_set w         the tag set of a block word
 --   type_set ws u v   the set of the types of the wires from u to v
 --   SameGraph g h     the same count, the same tag set at each block, the same type set at each pair of blocks
-use Rattle.std.specs.Prelude.{◌≡◌, ℕ, ◌<◌, Bool, false, ◌&&◌, ◌||◌, List, [], ◌∷◌, map, ◌==◌}
+use Rattle.std.specs.Prelude.{◌≡◌, ℕ, ◌<◌, Bool, ◌&&◌, List, map, ◌==◌}
+use Rattle.std.specs.List.{list_any}
 use Rattle.listing.specs.Words.{block_tags, wire_from, wire_to, wire_type}
 use Rattle.listing.specs.Listings.{block_words, wire_words}
 use Rattle.model.specs.Graphs.{Graph, block_count}
@@ -22,12 +22,8 @@ leads u v w = wire_from w == u && wire_to w == v
 abbrev pub runs : ℕ → ℕ → ℕ → ℕ → Bool
 runs u v k w = wire_from w == u && (wire_to w == v && wire_type w == k)
 
-abbrev pub any_of : (ℕ → Bool) → List ℕ → Bool
-any_of t [] = false
-any_of t (w ∷ ws) = t w || any_of t ws
-
 abbrev pub wired : List ℕ → ℕ → ℕ → ℕ → Bool
-wired ws u v k = any_of (runs u v k) (wire_words ws)
+wired ws u v k = list_any (runs u v k) (wire_words ws)
 
 abbrev pub tag_set : ℕ → Set
 tag_set w = set (block_tags w)

@@ -24,12 +24,12 @@ pub enum Fault {
     PartialWord(Place),
 }
 
-impl Fault {
+impl From<Fault> for Refusal {
+    ghost from_gives = { λ fault told. told ≡ refusal fault };
+
     /// The number and the place of a fault.
-    pub fn refusal(self) -> Refusal
-        ensures { result ≡ refusal self }
-    {
-        let (number, place) = match self {
+    fn from(fault: Fault) -> Refusal {
+        let (number, place) = match fault {
             Fault::WordCount => (10, Place(0)),
             Fault::Opening => (11, Place(0)),
             Fault::Total => (12, Place(0)),

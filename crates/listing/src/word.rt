@@ -1,4 +1,4 @@
-ghost use Rattle.std.specs.Prelude.{◌≡◌, ◌<◌, ◌==◌};
+ghost use Rattle.std.specs.Prelude.{◌≡◌, ◌<◌};
 ghost use Rattle.listing.specs.Words.{field, kind, kind_number, opening_blocks, opening_wires, wire_from, wire_to, wire_type, is_opening, is_block, is_wire, is_closing};
 ghost use Rattle.listing.specs.Graphs.{leads, tag_set};
 
@@ -6,24 +6,29 @@ use crate::counts::{Counts, MOST_BLOCKS, MOST_WIRES};
 use sets::Set;
 
 /// What sort of word a word is, as its two highest bits say.
-#[derive(Clone, Copy)]
+#[derive(Clone, Copy, PartialEq, Eq, Debug)]
 pub enum Kind {
-    Opening = 0,
-    Block = 1,
-    Wire = 2,
-    Closing = 3,
+    Opening,
+    Block,
+    Wire,
+    Closing,
 }
 
 /// One word of a listing.
-#[derive(Clone, Copy)]
+#[derive(Clone, Copy, PartialEq, Eq, Debug)]
 pub struct Word(pub u32);
 
 impl Word {
-    // Whether the word is of this kind.
-    fn is(self, sort: Kind) -> bool
-        ensures { result ≡ (kind self.0 == kind_number sort) }
+    /// The kind of the word.
+    pub fn kind(self) -> Kind
+        ensures { kind_number result ≡ kind self.0 }
     {
-        self.0 >> 30 == sort as u32
+        match self.0 >> 30 {
+            0 => Kind::Opening,
+            1 => Kind::Block,
+            2 => Kind::Wire,
+            _ => Kind::Closing,
+        }
     }
 
     // The number that `width` bits hold, from bit `low` up.
@@ -49,9 +54,8 @@ impl Word {
         ensures { result ≡ is_opening self.0 }
     {
         let counts = self.counts();
-        self.is(Kind::Opening)
-            && 1 <= counts.blocks
-            && counts.blocks <= MOST_BLOCKS
+        self.kind() == Kind::Opening
+            && (1..=MOST_BLOCKS).contains(&counts.blocks)
             && counts.wires <= MOST_WIRES
     }
 
@@ -94,20 +98,23 @@ impl Word {
     pub fn is_block(self) -> bool
         ensures { result ≡ is_block self.0 }
     {
-        self.is(Kind::Block) && self.field(24, 6) == 0 && self.field(0, 24) > 0
+        self.kind() == Kind::Block && self.field(24, 6) == 0 && self.field(0, 24) > 0
     }
 
     /// Whether the word is that of a wire among so many blocks.
     pub fn is_wire(self, blocks: usize) -> bool
         ensures { result ≡ is_wire blocks self.0 }
     {
-        self.is(Kind::Wire) && self.field(5, 9) == 0 && self.from() < blocks && self.to() < blocks
+        self.kind() == Kind::Wire
+            && self.field(5, 9) == 0
+            && self.from() < blocks
+            && self.to() < blocks
     }
 
     /// Whether the word closes a listing after so many words.
     pub fn is_closing(self, before: usize) -> bool
         ensures { result ≡ is_closing before self.0 }
     {
-        self.is(Kind::Closing) && self.field(0, 30) == before
+        self.kind() == Kind::Closing && self.field(0, 30) == before
     }
 }

@@ -1,22 +1,41 @@
 -- What the fields of a filled row store say, and how its tests and unions go step by step.
-use Rattle.std.proofs.Common.{◌≡◌, ℕ, zero, suc, ◌+◌, ◌<◌, ◌≤◌, true, false, ◌&&◌, ◌||◌, eqb, leb, List, [], ◌∷◌, ◌++◌, length, get_or, take, drop, sym, refl, ap, ◌∙◌, subst, ⊎_elim, add-one, arith}
-use Rattle.std.proofs.lemmas.List.{take_more, drop_more, drop_all}
-use Rattle.std.proofs.lemmas.Bool.{leb-true, le-leb, lt-leb, le-ltb, lt-ltb, and_parts, and_from, and_left, and_right, eqb-true, ne_eqb, eq-eqb, cases_order}
+use Rattle.std.proofs.Common.{◌≡◌, ℕ, zero, suc, ◌+◌, ◌<◌, ◌≤◌, Bool, true, false, ◌&&◌, ◌||◌, eqb, leb, List, [], length, get_or, take, Some, None, Option, Bor, sym, refl, ap, ◌∙◌, subst, ⊎_elim, add-one, arith}
+use Rattle.std.specs.List.{IsAllAdjacentAnswer, slice_get}
+use Rattle.std.specs.Slice.{IsItemAt}
+use Rattle.std.specs.Option.{option_copied}
+use Rattle.std.proofs.lemmas.Option.{slice_get_past, slice_get_read}
+use Rattle.std.specs.Ordering.{is_le, is_some_and, nat_cmp}
+use Rattle.std.proofs.lemmas.List.Sorted.{non_decreasing_from_is_sorted}
+use Rattle.std.proofs.lemmas.Bool.{leb-true, le-leb, lt-leb, and_parts, and_from, and_left, and_right, eqb-true, ne_eqb, eq-eqb, cases_order}
+use Rattle.std.proofs.lemmas.List.Folds.{list_any_more}
 use Rattle.sets.specs.Sets.{has, set, joined}
 use Rattle.sets.specs.declared.Set.{Set}
-use Rattle.sets.proofs.Membership.{has_nothing, has-set_of, word_is, set_of-alike, or_assoc, or_nothing}
+use Rattle.sets.proofs.Membership.{has_nothing, has-set_of, word_is, set_of-alike, or_nothing}
 use Rattle.stores.specs.declared.entry.Entry.{Entry}
-use Rattle.stores.specs.RowStores.{lists, any_entry, pair_set, never_falls, starts_fit, targets_fit}
+use Rattle.stores.specs.RowStores.{lists, any_entry, pair_set, never_falls, starts_fit}
+
+-- ---- a label that a slice lends
+pub got : {X : Type 0} (xs : List X) (i : ℕ) (r : Option (Bor X)) → IsItemAt xs i r → option_copied r ≡ slice_get xs i
+got xs i None h = sym (slice_get_past xs i h.3)
+got xs i (Some x) h = sym (slice_get_read xs (length xs) i x.now refl h.3.0 h.1)
 
 -- ---- starts that never fall
-pub never_more : (starts : List ℕ) (n : ℕ) → get_or starts n 0 ≤ get_or starts (n + 1) 0 → never_falls starts n ≡ true → never_falls starts (n + 1) ≡ true
-never_more starts n h e = subst (λ m. never_falls starts m ≡ true) (sym (add-one n)) (and_from _ _ (le-leb _ _ h) e)
+never_from : (starts : List ℕ) (n : ℕ) → ((k : ℕ) → k < n → get_or starts k 0 ≤ get_or starts (k + 1) 0) → never_falls starts n ≡ true
+never_from starts zero h = refl
+never_from starts (suc n) h = and_from _ _ (le-leb _ _ (h n (omega arith))) (never_from starts n (λ k l. h k (omega arith)))
 
-pub never_stops : (starts : List ℕ) (n k : ℕ) → k < n → get_or starts (k + 1) 0 < get_or starts k 0 → never_falls starts n ≡ false
+never_stops : (starts : List ℕ) (n k : ℕ) → k < n → get_or starts (k + 1) 0 < get_or starts k 0 → never_falls starts n ≡ false
 never_stops starts zero k h l = absurd (omega arith)
 never_stops starts (suc n) k h l =
     ⊎_elim (λ e. and_left _ _ (lt-leb (get_or starts n 0) (get_or starts (n + 1) 0) (subst (λ m. get_or starts (m + 1) 0 < get_or starts m 0) e l)))
     (λ o. and_right (leb (get_or starts n 0) (get_or starts (n + 1) 0)) (never_falls starts n) (⊎_elim (λ b. never_stops starts n k b l) (λ b. absurd (omega arith)) o)) (cases_order k n)
+
+-- the answer of the slice's own test
+pub sorted_is : (starts : List ℕ) (n : ℕ) (r : Bool) → length starts ≡ n + 1 → IsAllAdjacentAnswer (λ x y b. is_some_and is_le (Some (nat_cmp x y)) ≡ b) starts r → r ≡ never_falls starts n
+sorted_is starts n true e a =
+    let up = non_decreasing_from_is_sorted starts true a in sym (never_from starts n (λ k h. up k (k + 1) 0 (omega arith) (omega arith)))
+sorted_is starts n false e a =
+    let fall = non_decreasing_from_is_sorted starts false a in sym (never_stops starts n fall.0 (let h = fall.1 in omega arith) (fall.2 0))
 
 -- a row ends where the next begins, no earlier than it begins, and within the entries
 never_step : (starts : List ℕ) (n k : ℕ) → never_falls starts n ≡ true → k < n → get_or starts k 0 ≤ get_or starts (k + 1) 0
@@ -47,30 +66,12 @@ row_bounds starts entries n u e h =
     record { rising = never_step starts n u q.1 h; within = omega arith }
 
 -- ---- entries, one after another
-pub targets_last : (es : List Entry) (i n : ℕ) (d : Entry) → i < length es → n ≤ (get_or es i d).to → targets_fit (drop i es) n ≡ false
-targets_last es i n d h l = ap (λ xs. targets_fit xs n) (drop_more es i d h) ∙ and_left _ _ (le-ltb (get_or es i d).to n l)
-
-pub targets_more : (es : List Entry) (i n : ℕ) (d : Entry) → i < length es → (get_or es i d).to < n → targets_fit (drop i es) n ≡ targets_fit (drop (i + 1) es) n
-targets_more es i n d h l =
-    ap (λ xs. targets_fit xs n) (drop_more es i d h) ∙ ap (λ b. b && targets_fit (drop (i + 1) es) n) (lt-ltb (get_or es i d).to n l)
-
-pub targets_all : (es : List Entry) (i n : ℕ) → length es ≤ i → targets_fit (drop i es) n ≡ true
-targets_all es i n h = ap (λ xs. targets_fit xs n) (drop_all i es h)
-
-pub any_entry_append : (v k : ℕ) (xs ys : List Entry) → any_entry v k (xs ++ ys) ≡ (any_entry v k xs || any_entry v k ys)
-any_entry_append v k [] ys = refl
-any_entry_append v k (x ∷ xs) ys =
-    ap (λ b. lists v k x || b) (any_entry_append v k xs ys) ∙ or_assoc (lists v k x) (any_entry v k xs) (any_entry v k ys)
-
-any_entry_push : (v k : ℕ) (es : List Entry) (e : Entry) → any_entry v k (es ++ e ∷ []) ≡ (any_entry v k es || lists v k e)
-any_entry_push v k es e = any_entry_append v k es (e ∷ []) ∙ ap (λ b. any_entry v k es || b) (or_nothing (lists v k e) false refl)
-
 pub union_none : (v : ℕ) → set 0 ≡ pair_set [] v
 union_none v = ap set (word_is 0 (λ k. false) (omega arith) (λ k h. has_nothing k))
 
 module _ (es : List Entry) (i v : ℕ) (d : Entry) (s : Set) (inside : i < length es) (so_far : s ≡ pair_set (take i es) v) where
   longer : (k : ℕ) → any_entry v k (take (i + 1) es) ≡ (any_entry v k (take i es) || lists v k (get_or es i d))
-  longer k = ap (any_entry v k) (take_more es i d inside) ∙ any_entry_push v k (take i es) (get_or es i d)
+  longer k = list_any_more (lists v k) es i d inside
 
   held : (k : ℕ) → k < 32 → has k s.0 ≡ any_entry v k (take i es)
   held k h = ap (λ (x : Set). has k x.0) so_far ∙ has-set_of (λ j. any_entry v j (take i es)) k h

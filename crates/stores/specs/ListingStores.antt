@@ -5,10 +5,11 @@
 --   read_answer ws    what reading ws answers: nothing, or the first fault of ws
 --   gathered es u v   the set of the types of those of the wire words es that run from u to v
 use Rattle.std.specs.Prelude.{ℕ, Bool, ◌||◌, List, length, is_ok, Ok, Err, Result, ◌==◌}
+use Rattle.std.specs.List.{list_any}
 use Rattle.listing.specs.declared.counts.Counts.{Counts}
 use Rattle.listing.specs.declared.fault.Fault.{Fault}
 use Rattle.listing.specs.Faults.{verdict}
-use Rattle.listing.specs.Graphs.{any_of, runs}
+use Rattle.listing.specs.Graphs.{runs}
 use Rattle.sets.specs.Sets.{set, set_of}
 use Rattle.sets.specs.declared.Set.{Set}
 
@@ -23,4 +24,4 @@ abbrev pub read_answer : List ℕ → Result (Unit {0}) Fault
 read_answer ws = fault_part (verdict ws)
 
 abbrev pub gathered : List ℕ → ℕ → ℕ → Set
-gathered es u v = set (set_of (λ k. any_of (runs u v k) es))
+gathered es u v = set (set_of (λ k. list_any (runs u v k) es))

@@ -12,7 +12,8 @@
 --   targets_fit entries n               every entry is for a block below n
 --   fill_answer starts entries labels   what filling with these answers
 --   refusal f                           the number of a fault of filling; it has no place
-use Rattle.std.specs.Prelude.{ℕ, ◌+◌, ◌-◌, Bool, true, false, cond, ◌&&◌, ◌||◌, List, [], ◌∷◌, length, take, drop, Ok, Err, Result, ◌==◌, nat_le, nat_lt, slice_index}
+use Rattle.std.specs.Prelude.{ℕ, ◌+◌, ◌-◌, Bool, cond, ◌&&◌, List, length, take, drop, Ok, Err, Result, ◌==◌, nat_le, nat_lt, slice_index}
+use Rattle.std.specs.List.{list_any, list_all}
 use Rattle.refusal.specs.Refusals.{unplaced}
 use Rattle.refusal.specs.declared.Refusal.{Refusal}
 use Rattle.model.specs.Graphs.{Graph}
@@ -29,8 +30,7 @@ abbrev pub lists : ℕ → ℕ → Entry → Bool
 lists v k e = e.to == v && has k e.types.0
 
 abbrev pub any_entry : ℕ → ℕ → List Entry → Bool
-any_entry v k [] = false
-any_entry v k (e ∷ es) = lists v k e || any_entry v k es
+any_entry v k es = list_any (lists v k) es
 
 abbrev pub pair_set : List Entry → ℕ → Set
 pair_set es v = set (set_of (λ k. any_entry v k es))
@@ -49,8 +49,7 @@ starts_fit starts entries n =
     (slice_index starts 0 == 0) && (slice_index starts n == length entries && never_falls starts n)
 
 abbrev pub targets_fit : List Entry → ℕ → Bool
-targets_fit [] n = true
-targets_fit (e ∷ es) n = nat_lt e.to n && targets_fit es n
+targets_fit entries n = list_all (λ e. nat_lt e.to n) entries
 
 abbrev pub fill_answer : {L : Type 0} → List ℕ → List Entry → List L → Result (Unit {0}) FillFault
 fill_answer starts entries labels =

@@ -2,7 +2,7 @@ ghost use Rattle.std.specs.Prelude.{◌≡◌, ◌≤◌, true, [], ◌++◌, dr
 ghost use Rattle.model.specs.Graphs.{block_count};
 ghost use Rattle.stores.specs.ListingStores.{is_read, read_answer, gathered};
 ghost use Rattle.listing.specs.Graphs.{stated};
-ghost use Rattle.listing.specs.Listings.{counts_of};
+ghost use Rattle.listing.specs.Listings.{counts_of, block_words, wire_words};
 
 use listing::check::check;
 use listing::counts::{Counts, MOST_BLOCKS};
@@ -17,8 +17,7 @@ pub struct ListingStore<'a> {
     words: &'a [u32],
     counts: Counts,
     ghost listed: { is_read words.now ≡ true },
-    ghost blocks: { counts.blocks ≡ (counts_of words.now).blocks },
-    ghost wires: { counts.wires ≡ (counts_of words.now).wires },
+    ghost counted: { counts ≡ counts_of words.now },
 }
 
 impl<'a> ListingStore<'a> {
@@ -53,11 +52,34 @@ impl<'a> ListingStore<'a> {
         ensures left { memory.new ≡ (stated self.now.words.now).labels ++ drop (block_count (stated self.now.words.now)) memory.old }
         ensures within { result ≤ 192 }
     {
-        let count = self.counts.blocks;
-        for block in 0..count {
-            memory[block] = self.label(block).unwrap();
+        let words = self.block_words();
+        for (block, word) in words.iter().enumerate() {
+            memory[block] = Word(*word).tags();
         }
-        count
+        words.len()
+    }
+
+    // The words of the blocks, in block order. A store that has read nothing has none.
+    fn block_words(&self) -> &[u32]
+        ensures { result.now ≡ block_words self.now.words.now }
+    {
+        let end = 1 + self.counts.blocks;
+        match self.words.get(1..end) {
+            Some(words) => words,
+            None => &[],
+        }
+    }
+
+    // The words of the wires. A store that has read nothing has none.
+    fn wire_words(&self) -> &[u32]
+        ensures { result.now ≡ wire_words self.now.words.now }
+    {
+        let start = 1 + self.counts.blocks;
+        let end = start + self.counts.wires;
+        match self.words.get(start..end) {
+            Some(words) => words,
+            None => &[],
+        }
     }
 }
 
@@ -73,10 +95,8 @@ impl<'a> Store for ListingStore<'a> {
     }
 
     fn label(&self, block: usize) -> Option<Set> {
-        if block >= self.counts.blocks {
-            return None;
-        }
-        Some(Word(self.words[1 + block]).tags())
+        let word = self.block_words().get(block)?;
+        Some(Word(*word).tags())
     }
 
     fn pair(&self, from: usize, to: usize) -> Option<Set> {
@@ -84,11 +104,7 @@ impl<'a> Store for ListingStore<'a> {
         if from >= blocks || to >= blocks {
             return None;
         }
-        Some(wire_types(
-            &self.words[1 + blocks..1 + blocks + self.counts.wires],
-            from,
-            to,
-        ))
+        Some(wire_types(self.wire_words(), from, to))
     }
 }
 

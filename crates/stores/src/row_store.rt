@@ -1,5 +1,5 @@
 ghost use Rattle.std.specs.Prelude.{◌≡◌, ◌+◌, true, [], ◌∷◌, length, is_ok, if◌then◌else◌};
-ghost use Rattle.stores.specs.RowStores.{row_graph, pair_set, sizes_fit, starts_fit, never_falls, targets_fit, fill_answer};
+ghost use Rattle.stores.specs.RowStores.{row_graph, pair_set, sizes_fit, starts_fit, targets_fit, fill_answer};
 
 use crate::entry::Entry;
 use crate::fault::FillFault;
@@ -67,31 +67,14 @@ fn starts_fit(starts: &[u16], entries: &[Entry], count: usize) -> bool
     requires { length starts.now ≡ count + 1 }
     ensures { result ≡ starts_fit starts.now entries.now count }
 {
-    starts[0] == 0 && starts[count] as usize == entries.len() && never_falls(starts, count)
-}
-
-fn never_falls(starts: &[u16], count: usize) -> bool
-    requires { length starts.now ≡ count + 1 }
-    ensures { result ≡ never_falls starts.now count }
-{
-    for row in 0..count {
-        if starts[row] > starts[row + 1] {
-            return false;
-        }
-    }
-    true
+    starts[0] == 0 && usize::from(starts[count]) == entries.len() && starts.is_sorted()
 }
 
 // Whether every entry is for a block below the count.
 fn targets_fit(entries: &[Entry], count: usize) -> bool
     ensures { result ≡ targets_fit entries.now count }
 {
-    for entry in entries {
-        if entry.to as usize >= count {
-            return false;
-        }
-    }
-    true
+    entries.iter().all(|entry| usize::from(entry.to) < count)
 }
 
 // The union of the entries for a block.
@@ -100,7 +83,7 @@ fn entry_types(row: &[Entry], to: usize) -> Set
 {
     let mut types = Set::EMPTY;
     for entry in row {
-        if entry.to as usize == to {
+        if usize::from(entry.to) == to {
             types = types.union(entry.types);
         }
     }
@@ -119,10 +102,7 @@ impl<'a, L: Copy> Store for RowStore<'a, L> {
     }
 
     fn label(&self, block: usize) -> Option<L> {
-        if block >= self.labels.len() {
-            return None;
-        }
-        Some(self.labels[block])
+        self.labels.get(block).copied()
     }
 
     fn pair(&self, from: usize, to: usize) -> Option<Set> {
@@ -130,8 +110,8 @@ impl<'a, L: Copy> Store for RowStore<'a, L> {
         if from >= count || to >= count {
             return None;
         }
-        let start = self.starts[from] as usize;
-        let end = self.starts[from + 1] as usize;
+        let start = usize::from(self.starts[from]);
+        let end = usize::from(self.starts[from + 1]);
         Some(entry_types(&self.entries[start..end], to))
     }
 }

@@ -1,6 +1,4 @@
 use Rattle.std.proofs.Common.{sym, ap, ◌∙◌, arith}
-use Rattle.std.proofs.lemmas.List.{take_all}
-use Rattle.stores.specs.ListingStores.{gathered}
 use Rattle.stores.proofs.ListingStores.{gathered_none, gathered-with, gathered_skip}
 use Rattle.stores.proofs.listing_store.wire_types.Goals as goal
 use Rattle.stores.proofs.listing_store.wire_types.Goals.{then-leads, else-leads}
@@ -17,6 +15,3 @@ loop-wire-preserved c =
       | then-leads w ↦ w.types-is ∙ w.with-types.ensures.value ∙ ap (λ k. added k c.loop-wire.types) w.wire_type.ensures ∙ gathered-with es i c.args.from c.args.to c.loop-wire.types (omega arith) c.loop-wire.invariant (sym c.leads.ensures ∙ w.if-leads.true)
       | else-leads w ↦ w.types-is ∙ gathered_skip es i c.args.from c.args.to c.loop-wire.types (omega arith) c.loop-wire.invariant (sym c.leads.ensures ∙ w.if-leads.false)
     ]
-
-pub returns : goal.returns
-returns c = c.loop-wire.invariant ∙ ap (λ es. gathered es c.args.from c.args.to) (take_all c.loop-wire.wire-index c.args.wires.now (omega arith))

@@ -1,6 +1,5 @@
-use Rattle.std.proofs.Common.{sym, ◌∙◌}
 use Rattle.stores.proofs.ListingStores.{read_count}
 use Rattle.stores.proofs.listing_store.ListingStoreStore.count.Goals as goal
 
 pub returns : goal.returns
-returns c = c.args.self.now.blocks ∙ sym (read_count _ c.args.self.now.listed)
+returns c = let s = c.args.self.now in read_count s.words.now s.counts s.listed s.counted

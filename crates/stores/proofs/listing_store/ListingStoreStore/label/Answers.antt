@@ -1,21 +1,13 @@
-use Rattle.std.proofs.Common.{Some, sym, ap, ◌∙◌, arith}
-use Rattle.stores.proofs.ListingStores.{read_within, read_label, read_no_label}
+use Rattle.std.proofs.Common.{Some, ap, ◌∙◌, arith}
+use Rattle.stores.proofs.ListingStores.{label_past, label_there}
 use Rattle.stores.proofs.listing_store.ListingStoreStore.label.Goals as goal
 
-pub returns-then-block-self : goal.returns-then-block-self
-returns-then-block-self c =
-    let s = c.args.self.now in
-    let e = s.blocks in
-    sym (read_no_label s.words.now s.listed c.args.block (omega arith))
-
-pub bounds-self-block : goal.bounds-self-block
-bounds-self-block c =
-    let s = c.args.self.now in
-    let e = s.blocks in
-    read_within s.words.now s.listed c.args.block (omega arith)
+pub returns-in_err-word : goal.returns-in_err-word
+returns-in_err-word c =
+    let h = c.in_err-word.ensures.lookup in
+    c.from_residual.ensures ∙ label_past c.args.self.now.words.now c.block_words.result.now c.args.block c.block_words.ensures (omega arith)
 
 pub returns : goal.returns
 returns c =
-    let s = c.args.self.now in
-    let e = s.blocks in
-    ap Some c.tags.ensures ∙ sym (read_label s.words.now s.listed c.args.block (omega arith))
+    let h = c.in_ok-word.ensures.lookup in
+    ap Some c.tags.ensures ∙ label_there c.args.self.now.words.now c.block_words.result.now c.args.block c.in_ok-word.word.now c.block_words.ensures (omega arith) h.1

@@ -1,6 +1,6 @@
-use Rattle.std.proofs.Common.{length, Some, sym, ap, ◌∙◌, inl, inr, ⊎_elim, rules}
+use Rattle.std.proofs.Common.{◌-◌, take, drop, length, Some, sym, ap, ◌∙◌, ap₂, inl, inr, ⊎_elim, rules}
 use Rattle.model.proofs.Meanings.{pair_there, pair_absent}
-use Rattle.stores.specs.RowStores.{row_graph}
+use Rattle.stores.specs.RowStores.{row_graph, pair_set}
 use Rattle.stores.proofs.RowStores.{row_bounds}
 use Rattle.stores.proofs.row_store.RowStoreStore.pair.Goals as goal
 
@@ -32,5 +32,5 @@ pub returns : goal.returns
 unfolding row_graph
 returns g c =
     let s = c.args.self.now in
-    ap Some c.entry_types.ensures
+    ap Some (c.entry_types.ensures ∙ ap₂ (λ a b. pair_set (take (b - a) (drop a s.entries.now)) c.args.to) c.from-start.ensures c.from-end.ensures)
     ∙ sym (pair_there (row_graph s.starts.now s.entries.now s.labels.now) c.args.from c.args.to c.if-from-count.false c.if-to-count.false)
