@@ -1,5 +1,5 @@
 -- The line of a file by what the file is found to be, and two lines one after the other.
-use Rattle.std.proofs.Common.{◌≡◌, ℕ, ◌+◌, ◌≤◌, Bool, true, false, cond, List, length, take, drop, None, Ok, Err, unwrap_or, sym, refl, ap, ◌∙◌, ap₂, arith}
+use Rattle.std.proofs.Common.{◌≡◌, ℕ, ◌+◌, ◌≤◌, Bool, true, false, cond, List, length, take, drop, None, Ok, Err, Result, unwrap_or, sym, refl, ap, ◌∙◌, ap₂, arith}
 use Rattle.refusal.specs.declared.Place.{Place}
 use Rattle.refusal.specs.declared.Refusal.{Refusal}
 use Rattle.listing.specs.declared.counts.Counts.{Counts}
@@ -14,6 +14,7 @@ use Rattle.std.proofs.lemmas.Bool.{cond-true}
 use Rattle.lines.specs.declared.role.Role.{Role}
 use Rattle.lines.specs.GraphLines.{graph_line}
 use Rattle.lines.specs.Lines.{count_line, fault_line}
+use Rattle.std.specs.Result.{result_ok}
 use Rattle.inspection.specs.Printouts.{verdict_line, file_line, graph_line_of, file_graph_line}
 
 pub line_of_counts : (role : Role) (bs : List ℕ) (c : Counts) → Ok c ≡ file_verdict bs → count_line role c ≡ file_line role bs
@@ -29,9 +30,13 @@ line_of_fault role bs f told p e t q =
     ∙ ap (verdict_line role) e
 
 -- ---- the lines of the graph
-pub no_line_of_fault : (bs : List ℕ) (i : ℕ) (f : Fault) → file_verdict bs ≡ Err f → file_graph_line bs i ≡ None
+pub no_line_of_fault : (bs : List ℕ) (i : ℕ) → result_ok (file_verdict bs) ≡ None → file_graph_line bs i ≡ None
 unfolding file_graph_line
-no_line_of_fault bs i f e = ap (λ r. graph_line_of r (file_words bs) i) e
+no_line_of_fault bs i = go (file_verdict bs)
+  where
+    go : (r : Result Counts Fault) → result_ok r ≡ None → graph_line_of r (file_words bs) i ≡ None
+    go (Ok c) e = cc
+    go (Err f) e = refl
 
 pub line_of_graph : (bs : List ℕ) (i : ℕ) (c : Counts) → file_verdict bs ≡ Ok c → graph_line (file_words bs) i ≡ file_graph_line bs i
 unfolding file_graph_line

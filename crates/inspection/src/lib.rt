@@ -11,7 +11,7 @@ use lines::graph::{GRAPH_LINE, graph_line};
 use lines::role::Role;
 use lines::write::{count_line, fault_line};
 use listing::file::{FILE_WORDS, check_file};
-use refusal::Place;
+use refusal::{Place, Refusal};
 
 /// How many bytes the printout of two files has at most.
 pub const PRINTOUT: usize = 128;
@@ -26,7 +26,7 @@ pub fn file_line(role: Role, bytes: &[u8], out: &mut [u8]) -> Result<usize, Line
     let mut memory = [0; FILE_WORDS];
     let checked = check_file(bytes, &mut memory);
     let Ok(counts) = checked else {
-        let refusal = checked.unwrap_err().refusal();
+        let refusal = Refusal::from(checked.unwrap_err());
         return fault_line(role, refusal.number, refusal.place.unwrap_or(Place(0)), out);
     };
     count_line(role, counts, out)
@@ -52,8 +52,6 @@ pub fn file_graph_line(bytes: &[u8], index: usize, out: &mut [u8; GRAPH_LINE]) -
     ensures within { Short result }
 {
     let mut memory = [0; FILE_WORDS];
-    let Ok(counts) = check_file(bytes, &mut memory) else {
-        return None;
-    };
+    let counts = check_file(bytes, &mut memory).ok()?;
     graph_line(&memory[0..counts.blocks + counts.wires + 2], index, out)
 }

@@ -30,7 +30,7 @@ impl From<ProposalFault> for Refusal {
 
     fn from(fault: ProposalFault) -> Refusal {
         match fault {
-            ProposalFault::Check(fault) => fault.refusal(),
+            ProposalFault::Check(fault) => Refusal::from(fault),
             ProposalFault::TooManyBlocks => Refusal {
                 number: RefusalNumber(1),
                 place: None,
