@@ -31,7 +31,7 @@ block_pair w h = let e = block_is w h in let t : block_tags w < 16777216 = mod_b
 
 -- the test for a wire that opens a pair
 abbrev pub open_test : List ℕ → Counts → ℕ → Bool
-open_test ws c i = not (eqb (word ws (1 + c.blocks + i - 1) / 2 ^ 14) (word ws (1 + c.blocks + i) / 2 ^ 14))
+open_test ws c i = not (eqb (word ws (c.blocks + i) / 2 ^ 14) (word ws (1 + c.blocks + i) / 2 ^ 14))
 
 -- the entries that the first i wires make
 abbrev pub entries_to : List ℕ → ℕ → List Entry
@@ -104,9 +104,9 @@ module _ (ws : List ℕ) (c : Counts) (l : Listing ws c) where
   pair_at_lem : (i : ℕ) → i < c.wires → word ws (1 + c.blocks + i) / 16384 ≡ 131072 + key (get_or (wire_words ws) i 0)
   pair_at_lem i h = pair_is c.blocks _ (l.wire i h) ∙ ap (λ w. 131072 + key w) (sym (wire_at i h))
 
-  pair_before : (i : ℕ) → 0 < i → i < c.wires → word ws (1 + c.blocks + i - 1) / 16384 ≡ 131072 + key (get_or (wire_words ws) (i - 1) 0)
+  pair_before : (i : ℕ) → 0 < i → i < c.wires → word ws (c.blocks + i) / 16384 ≡ 131072 + key (get_or (wire_words ws) (i - 1) 0)
   pair_before i p h =
-      let at : 1 + c.blocks + i - 1 ≡ 1 + c.blocks + (i - 1) = omega arith in
+      let at : c.blocks + i ≡ 1 + c.blocks + (i - 1) = omega arith in
       ap (λ k. word ws k / 16384) at ∙ pair_at_lem (i - 1) (omega arith)
 
   new_pair : (i : ℕ) → i < c.wires → open_test ws c i ≡ true → (j : ℕ) → j < i → key (get_or (wire_words ws) j 0) < key (get_or (wire_words ws) i 0)
@@ -124,7 +124,7 @@ module _ (ws : List ℕ) (c : Counts) (l : Listing ws c) where
       let e = eqb-true _ _ (not-false _ t) in
       let p = pair_at_lem 0 h in
       let some = some_block in
-      let at : 1 + c.blocks + 0 - 1 ≡ 1 + (c.blocks - 1) = omega arith in
+      let at : c.blocks + 0 ≡ 1 + (c.blocks - 1) = omega arith in
       let q = block_pair (word ws (1 + (c.blocks - 1))) (l.block (c.blocks - 1) (omega arith)) in
       let f = ap (λ k. word ws k / 16384) at in
       omega arith

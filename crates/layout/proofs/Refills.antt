@@ -15,25 +15,18 @@ use Rattle.listing.proofs.Accepts.{ranges}
 use Rattle.listing.proofs.Parts.{length_tags}
 use Rattle.layout.specs.Refills.{Refilled}
 use Rattle.stores.specs.declared.entry.Entry.{Entry}
-use Rattle.stores.specs.RowStores.{row_entries, any_entry, pair_set, row_graph, sizes_fit, never_falls, starts_fit, targets_fit, fill_answer}
+use Rattle.stores.specs.RowStores.{row_entries, lists, any_entry, pair_set, row_graph, sizes_fit, never_falls, starts_fit, targets_fit, fill_answer}
 use Rattle.layout.specs.Layouts.{entry, cell_of, row_of, entries_of, start_of, starts_of, laid}
-use Rattle.stores.proofs.RowStores.{any_entry_append}
+use Rattle.std.proofs.lemmas.List.Folds.{list_any-append, list_all-append}
 use Rattle.layout.proofs.Joins.{joined_split}
 
 -- ---- lists of entries
-targets_append : (n : ℕ) (xs ys : List Entry) → targets_fit xs n ≡ true → targets_fit ys n ≡ true → targets_fit (xs ++ ys) n ≡ true
-targets_append n [] ys a b = b
-targets_append n (x ∷ xs) ys a b = go (ltb x.to n) a (λ h. targets_append n xs ys h b)
-  where
-    go : (t : Bool) → (t && targets_fit xs n) ≡ true → (targets_fit xs n ≡ true → targets_fit (xs ++ ys) n ≡ true) → (t && targets_fit (xs ++ ys) n) ≡ true
-    go true h rest = rest h
-    go false h rest = h
-
 -- what holds of each part holds of all of them
 targets_joined : (m : ℕ) (f : ℕ → List Entry) (a n : ℕ) → ((x : ℕ) → a ≤ x → x < a + n → targets_fit (f x) m ≡ true) → targets_fit (flat_map f (range_with_len a n)) m ≡ true
 targets_joined m f a zero h = refl
 targets_joined m f a (suc n) h =
-    targets_append m (f a) (flat_map f (range_with_len (a + 1) n)) (h a (omega arith) (omega arith)) (targets_joined m f (a + 1) n (λ x l k. h x (omega arith) (omega arith)))
+    list_all-append (λ e. ltb e.to m) (f a) (flat_map f (range_with_len (a + 1) n))
+    ∙ and_from _ _ (h a (omega arith) (omega arith)) (targets_joined m f (a + 1) n (λ x l k. h x (omega arith) (omega arith)))
 
 module _ (g : Graph Set Set) where
   -- ---- one cell
@@ -55,13 +48,13 @@ module _ (g : Graph Set Set) where
   any_below : (u v k a n : ℕ) → v < a → any_entry v k (flat_map (cell_of g u) (range_with_len a n)) ≡ false
   any_below u v k a zero h = refl
   any_below u v k a (suc n) h =
-      any_entry_append v k (cell_of g u a) (flat_map (cell_of g u) (range_with_len (a + 1) n))
+      list_any-append (lists v k) (cell_of g u a) (flat_map (cell_of g u) (range_with_len (a + 1) n))
       ∙ ap₂ (λ x y. x || y) (any_cell u a v k ∙ and_left _ _ (ne_eqb a v (λ e. omega arith))) (any_below u v k (a + 1) n (omega arith))
 
   any_at : (u v k a n : ℕ) → a ≤ v → v < a + n → any_entry v k (flat_map (cell_of g u) (range_with_len a n)) ≡ has k (g.pairs u v).0
   any_at u v k a zero low high = absurd (omega arith)
   any_at u v k a (suc n) low high =
-      any_entry_append v k (cell_of g u a) (flat_map (cell_of g u) (range_with_len (a + 1) n))
+      list_any-append (lists v k) (cell_of g u a) (flat_map (cell_of g u) (range_with_len (a + 1) n))
       ∙ ⊎_elim
       (λ e. ap₂ (λ x y. x || y) (any_cell u a v k ∙ ap (λ b. b && has k (g.pairs u a).0) (eq-eqb a v e)) (any_below u v k (a + 1) n (omega arith)) ∙ or_nothing _ false refl ∙ ap (λ x. has k (g.pairs u x).0) e)
       (⊎_elim (λ l. ap₂ (λ x y. x || y) (any_cell u a v k ∙ and_left _ _ (ne_eqb a v (λ e. omega arith))) (any_at u v k (a + 1) n (omega arith) (omega arith))) (λ l. absurd (omega arith)))

@@ -8,7 +8,8 @@ use Rattle.sets.specs.Sets.{set, added}
 use Rattle.sets.specs.declared.Set.{Set}
 use Rattle.stores.specs.declared.entry.Entry.{Entry}
 use Rattle.listing.specs.Words.{wire_from, wire_to, wire_type}
-use Rattle.listing.proofs.Rising.{In, in_get_or, get_or_in}
+use Rattle.lists.specs.Members.{In}
+use Rattle.lists.proofs.Members.{in_get_or, get_or_in}
 use Rattle.layout.specs.Layouts.{entry, cell_of, row_of, entries_of, start_of}
 use Rattle.layout.specs.Passes.{drawn}
 use Rattle.layout.proofs.Joins.{joined_empty, joined_same, joined-front, joined_to}
@@ -28,14 +29,14 @@ to_small w = mod_below _ 256 (omega arith)
 
 in_front : (vs : List ℕ) (i x : ℕ) → i ≤ length vs → In x (take i vs) → (j : ℕ) × (j < i) × (get_or vs j 0 ≡ x)
 in_front vs i x h m =
-    let f = in_get_or (take i vs) x m in
+    let f = in_get_or (take i vs) x 0 m in
     let long = length-take-le i vs h in
     let low : f.0 < i = let l = f.1 in omega arith in
     (f.0, low, sym (get_or-take i vs f.0 0 low) ∙ f.2)
 
 in_rest : (vs : List ℕ) (i x : ℕ) → In x (drop i vs) → (j : ℕ) × (i ≤ j) × (j < length vs) × (get_or vs j 0 ≡ x)
 in_rest vs i x m =
-    let f = in_get_or (drop i vs) x m in
+    let f = in_get_or (drop i vs) x 0 m in
     let long = length-drop i vs in
     let l = f.1 in
     (i + f.0, omega arith, omega arith, sym (get_or-drop i vs f.0 0) ∙ f.2)
@@ -120,7 +121,7 @@ module _ (ls : List Set) where
         omega arith
 
     last_in : In w (front ++ w ∷ [])
-    last_in = subst (In w) more (subst (λ x. In x (take (i + 1) vs)) (get_or-take (i + 1) vs i 0 (omega arith)) (get_or_in (take (i + 1) vs) i (let l = length-take-le (i + 1) vs (omega arith) in omega arith)))
+    last_in = subst (In w) more (subst (λ x. In x (take (i + 1) vs)) (get_or-take (i + 1) vs i 0 (omega arith)) (get_or_in (take (i + 1) vs) i 0 (let l = length-take-le (i + 1) vs (omega arith) in omega arith)))
 
     entries_now : entries_of (drawn ls front) ≡ before front (wire_from w) (wire_to w) ++ cell_of (drawn ls front) (wire_from w) (wire_to w)
     entries_now = let e = o.ends i h in split front (wire_from w) (wire_to w) e.0 e.1 (to_small w) at_most
@@ -156,7 +157,7 @@ module _ (ls : List Set) where
     adds_type low same =
         let x : ℕ = get_or vs (i - 1) 0 in
         let inside : In x front =
-        subst (λ y. In y front) (get_or-take i vs (i - 1) 0 (omega arith)) (get_or_in front (i - 1) (let l = length-take-le i vs (omega arith) in omega arith)) in
+        subst (λ y. In y front) (get_or-take i vs (i - 1) 0 (omega arith)) (get_or_in front (i - 1) 0 (let l = length-take-le i vs (omega arith) in omega arith)) in
         let a = to_small x in
         let b = to_small w in
         let f : wire_from x ≡ wire_from w = omega arith in

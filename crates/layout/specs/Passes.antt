@@ -7,14 +7,15 @@ use Rattle.std.specs.Prelude.{◌≡◌, ℕ, ◌<◌, ◌≤◌, List, length, 
 use Rattle.sets.specs.Sets.{set, set_of}
 use Rattle.sets.specs.declared.Set.{Set}
 use Rattle.model.specs.Graphs.{Graph}
+use Rattle.std.specs.List.{list_any}
 use Rattle.listing.specs.Words.{wire_from}
 use Rattle.listing.specs.Listings.{wire_words}
-use Rattle.listing.specs.Graphs.{any_of, runs, stated}
+use Rattle.listing.specs.Graphs.{runs, stated}
 use Rattle.layout.specs.declared.passed.Passed.{Passed}
 use Rattle.layout.specs.Layouts.{entries_of}
 
 abbrev pub drawn : List Set → List ℕ → Graph Set Set
-drawn ls vs = record { labels = ls; pairs = λ u v. set (set_of (λ k. any_of (runs u v k) vs)) }
+drawn ls vs = record { labels = ls; pairs = λ u v. set (set_of (λ k. list_any (runs u v k) vs)) }
 
 abbrev pub early : List ℕ → ℕ → Graph Set Set
 early ws i = drawn (stated ws).labels (take i (wire_words ws))

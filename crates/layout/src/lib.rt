@@ -4,3 +4,4 @@
 pub mod fault;
 pub mod layout;
 mod passed;
+mod wires;
