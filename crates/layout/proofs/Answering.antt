@@ -45,26 +45,19 @@ module _ (ws ss : List ℕ) (es : List Entry) where
     no_fault room more = accepted ∙ cond-false _ _ _ (past_starts room) ∙ cond-false _ _ _ (le-ltb (length es) (length (entries_of (stated ws))) more)
 
   -- ---- what is answered and left
-  pub refused_answer : (f : LayoutFault) → fault_for ws ss es ≡ Some f → Err f ≡ layout_answer ws ss es
-  unfolding layout_answer
-  refused_answer f e = ap (answer_by (length (entries_of (stated ws)))) (sym e)
+  pub refused : (f : LayoutFault) → fault_for ws ss es ≡ Some f → (Err f ≡ layout_answer ws ss es) × (ss ≡ starts_left ws ss es) × (es ≡ entries_left ws ss es)
+  unfolding layout_answer starts_left entries_left
+  refused f e = (
+    ap (answer_by (length (entries_of (stated ws)))) (sym e),
+    ap (left_by (starts_of (stated ws)) ss) (sym e),
+    ap (left_by (entries_of (stated ws)) es) (sym e),
+  )
 
-  pub refused_starts : (f : LayoutFault) → fault_for ws ss es ≡ Some f → ss ≡ starts_left ws ss es
-  unfolding starts_left
-  refused_starts f e = ap (left_by (starts_of (stated ws)) ss) (sym e)
-
-  pub refused_entries : (f : LayoutFault) → fault_for ws ss es ≡ Some f → es ≡ entries_left ws ss es
-  unfolding entries_left
-  refused_entries f e = ap (left_by (entries_of (stated ws)) es) (sym e)
-
-  pub made_answer : (n : ℕ) → n ≡ length (entries_of (stated ws)) → fault_for ws ss es ≡ None → Ok n ≡ layout_answer ws ss es
-  unfolding layout_answer
-  made_answer n m e = ap Ok m ∙ ap (answer_by (length (entries_of (stated ws)))) (sym e)
-
-  pub made_starts : fault_for ws ss es ≡ None → laid (starts_of (stated ws)) ss ≡ starts_left ws ss es
-  unfolding starts_left
-  made_starts e = ap (left_by (starts_of (stated ws)) ss) (sym e)
-
-  pub made_entries : fault_for ws ss es ≡ None → laid (entries_of (stated ws)) es ≡ entries_left ws ss es
-  unfolding entries_left
-  made_entries e = ap (left_by (entries_of (stated ws)) es) (sym e)
+  pub made : (n : ℕ) → n ≡ length (entries_of (stated ws)) → fault_for ws ss es ≡ None
+      → (Ok n ≡ layout_answer ws ss es) × (laid (starts_of (stated ws)) ss ≡ starts_left ws ss es) × (laid (entries_of (stated ws)) es ≡ entries_left ws ss es)
+  unfolding layout_answer starts_left entries_left
+  made n m e = (
+    ap Ok m ∙ ap (answer_by (length (entries_of (stated ws)))) (sym e),
+    ap (left_by (starts_of (stated ws)) ss) (sym e),
+    ap (left_by (entries_of (stated ws)) es) (sym e),
+  )

@@ -17,23 +17,16 @@ use Rattle.layout.specs.Refills.{Refilled}
 use Rattle.stores.specs.declared.entry.Entry.{Entry}
 use Rattle.stores.specs.RowStores.{row_entries, lists, any_entry, pair_set, row_graph, sizes_fit, never_falls, starts_fit, targets_fit, fill_answer}
 use Rattle.layout.specs.Layouts.{entry, cell_of, row_of, entries_of, start_of, starts_of, laid}
-use Rattle.std.proofs.lemmas.List.Folds.{list_any-append}
+use Rattle.std.proofs.lemmas.List.Folds.{list_any-append, list_all-append}
 use Rattle.layout.proofs.Joins.{joined_split}
 
 -- ---- lists of entries
-targets_append : (n : ℕ) (xs ys : List Entry) → targets_fit xs n ≡ true → targets_fit ys n ≡ true → targets_fit (xs ++ ys) n ≡ true
-targets_append n [] ys a b = b
-targets_append n (x ∷ xs) ys a b = go (ltb x.to n) a (λ h. targets_append n xs ys h b)
-  where
-    go : (t : Bool) → (t && targets_fit xs n) ≡ true → (targets_fit xs n ≡ true → targets_fit (xs ++ ys) n ≡ true) → (t && targets_fit (xs ++ ys) n) ≡ true
-    go true h rest = rest h
-    go false h rest = h
-
 -- what holds of each part holds of all of them
 targets_joined : (m : ℕ) (f : ℕ → List Entry) (a n : ℕ) → ((x : ℕ) → a ≤ x → x < a + n → targets_fit (f x) m ≡ true) → targets_fit (flat_map f (range_with_len a n)) m ≡ true
 targets_joined m f a zero h = refl
 targets_joined m f a (suc n) h =
-    targets_append m (f a) (flat_map f (range_with_len (a + 1) n)) (h a (omega arith) (omega arith)) (targets_joined m f (a + 1) n (λ x l k. h x (omega arith) (omega arith)))
+    list_all-append (λ e. ltb e.to m) (f a) (flat_map f (range_with_len (a + 1) n))
+    ∙ and_from _ _ (h a (omega arith) (omega arith)) (targets_joined m f (a + 1) n (λ x l k. h x (omega arith) (omega arith)))
 
 module _ (g : Graph Set Set) where
   -- ---- one cell

@@ -13,8 +13,7 @@ use Rattle.listing.specs.Listings.{Listing, word}
 use Rattle.listing.specs.Graphs.{stated}
 use Rattle.layout.specs.Layouts.{entry, entries_of, start_of, starts_of, laid}
 use Rattle.layout.proofs.Steps.{no_entries}
-use Rattle.layout.proofs.Passing.{few_wires}
-use Rattle.layout.proofs.Listed.{length_most, open_test, entries_to, label_count, entries_open, entries_add, length_open, length_add, length_within}
+use Rattle.layout.proofs.Listed.{open_test, entries_to, label_count, entries_open, entries_add, length_open, length_add, length_within}
 
 -- ---- the starts
 module _ (ws : List ℕ) (c : Counts) (l : Listing ws c) (ss : List ℕ) where
@@ -72,9 +71,6 @@ entries_none ws es =
     (sym (ap length none), sym (ap (λ t. laid t es) none))
 
 module _ (ws : List ℕ) (c : Counts) (l : Listing ws c) (es : List Entry) (room : length (entries_of (stated ws)) ≤ length es) (i : ℕ) (h : i < c.wires) where
-  pub few_entries : length (entries_to ws i) < 16384
-  few_entries = let m = length_most ws c l i (omega arith) in let f = few_wires ws c l in omega arith
-
   -- a wire that opens a pair has room for its entry
   pub room_open : open_test ws c i ≡ true → length (entries_to ws i) < length es
   room_open t = let a = length_open ws c l i h t in let b = length_within ws c l (i + 1) (omega arith) in omega arith

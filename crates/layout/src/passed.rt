@@ -1,11 +1,11 @@
 /// How far a pass over the wires has come: how many wires it has passed, and how many wired pairs they make.
 #[derive(Clone, Copy)]
-pub struct Passed {
-    pub wires: usize,
-    pub pairs: usize,
+pub(crate) struct Passed {
+    pub(crate) wires: usize,
+    pub(crate) pairs: usize,
 }
 
 impl Passed {
     /// A pass that has not begun.
-    pub const NONE: Passed = Passed { wires: 0, pairs: 0 };
+    pub(crate) const NONE: Passed = Passed { wires: 0, pairs: 0 };
 }

@@ -1,5 +1,5 @@
 ghost use Rattle.std.specs.Prelude.{◌≡◌, ◌+◌, ◌<◌, ◌≤◌, not, length, ◌==◌, ◌/◌, ◌^◌};
-ghost use Rattle.listing.specs.Listings.{Listing, word};
+ghost use Rattle.listing.specs.Listings.{Listing, word, wire_words};
 ghost use Rattle.listing.specs.Checks.{wire_word};
 ghost use Rattle.listing.specs.Graphs.{stated};
 ghost use Rattle.layout.specs.Layouts.{start_of, starts_of, entries_of, laid};
@@ -13,19 +13,21 @@ use stores::entry::Entry;
 
 /// The words of a listing, whose wires are laid out.
 #[derive(Drop)]
-pub struct Wires<'a> {
-    pub words: &'a [u32],
-    pub counts: Counts,
+pub(crate) struct Wires<'a> {
+    pub(crate) words: &'a [u32],
+    pub(crate) counts: Counts,
     ghost listed: { Listing words.now counts },
 }
 
 impl<'a> Wires<'a> {
-    // The word of a wire.
-    fn word(&self, wire: usize) -> Word
-        requires { wire < self.now.counts.wires }
-        ensures { result.0 ≡ wire_word self.now.words.now self.now.counts wire }
+    // The words of the wires.
+    fn wire_words(&self) -> &[u32]
+        ensures value { result.now ≡ wire_words self.now.words.now }
+        ensures len { length result.now ≡ self.now.counts.wires }
     {
-        Word(self.words[1 + self.counts.blocks + wire])
+        let start = 1 + self.counts.blocks;
+        let end = start + self.counts.wires;
+        &self.words[start..end]
     }
 
     // Whether a wire runs between other blocks than the one before it. The first wire does: a block word stands before
@@ -45,9 +47,10 @@ impl<'a> Wires<'a> {
         ensures below { Below self.now.words.now row result }
         ensures start { result.pairs ≡ start_of (stated self.now.words.now) row }
     {
+        let words = self.wire_words();
         let mut pairs = passed.pairs;
-        for wire in passed.wires..self.counts.wires {
-            if self.word(wire).from() >= row {
+        for wire in passed.wires..words.len() {
+            if Word(words[wire]).from() >= row {
                 return Passed { wires: wire, pairs };
             }
             if self.opens(wire) {
@@ -55,20 +58,20 @@ impl<'a> Wires<'a> {
             }
         }
         Passed {
-            wires: self.counts.wires,
+            wires: words.len(),
             pairs,
         }
     }
 
     /// How many pairs the wires wire.
-    pub fn pairs(&self) -> usize
+    pub(crate) fn pairs(&self) -> usize
         ensures { result ≡ length (entries_of (stated self.now.words.now)) }
     {
         self.pass(Passed::NONE, self.counts.blocks).pairs
     }
 
     /// Writes the row starts: as the pass reaches a row, it has counted the entries before it.
-    pub fn write_starts(&self, starts: &mut [u16])
+    pub(crate) fn write_starts(&self, starts: &mut [u16])
         requires { self.now.counts.blocks + 1 ≤ length starts.old }
         ensures { starts.new ≡ laid (starts_of (stated self.now.words.now)) starts.old }
     {
@@ -80,13 +83,13 @@ impl<'a> Wires<'a> {
     }
 
     /// Writes the entries: a wire that opens a pair begins an entry, and any other adds its type to the last one.
-    pub fn write_entries(&self, entries: &mut [Entry])
+    pub(crate) fn write_entries(&self, entries: &mut [Entry])
         requires { length (entries_of (stated self.now.words.now)) ≤ length entries.old }
         ensures { entries.new ≡ laid (entries_of (stated self.now.words.now)) entries.old }
     {
         let mut written = 0;
-        for index in 0..self.counts.wires {
-            let wire = self.word(index);
+        for (index, word) in self.wire_words().iter().enumerate() {
+            let wire = Word(*word);
             if self.opens(index) {
                 entries[written] = Entry {
                     to: wire.to() as u16,
@@ -94,8 +97,8 @@ impl<'a> Wires<'a> {
                 };
                 written += 1;
             } else {
-                let last = written - 1;
-                entries[last].types = entries[last].types.with(wire.wire_type());
+                let last = &mut entries[written - 1];
+                last.types = last.types.with(wire.wire_type());
             }
         }
     }

@@ -1,12 +1,14 @@
 -- The laws of the three rules.
-use Rattle.std.specs.Prelude.{◌≡◌, true, false, ℤ, pos, negsuc, refl}
+use Rattle.std.specs.Prelude.{◌≡◌, true, refl}
+use Rattle.std.specs.Ordering.{int_eq}
 use Rattle.std.proofs.Common.{sym, ap, ◌∙◌}
-use Rattle.std.proofs.lemmas.Bool.{and_parts, and_from, eqb-true, eq-eqb, both_ways}
+use Rattle.std.proofs.lemmas.Bool.{and_parts, and_from}
+use Rattle.std.proofs.lemmas.Bool.Decides.{Decides-int_eq}
 use Rattle.model.specs.Rules.{Laws}
 use Rattle.sets.specs.Sets.{is_subset, same_set}
 use Rattle.sets.specs.declared.Set.{Set}
 use Rattle.sets.proofs.Membership.{one_test, decides_subset, decides_same}
-use Rattle.rules.specs.Bands.{same_number, in_band, same_band}
+use Rattle.rules.specs.Bands.{in_band, same_band}
 use Rattle.rules.specs.declared.band.Band.{Band}
 
 -- ---- sets with the same members
@@ -42,25 +44,16 @@ exact_laws =
     }
 
 -- ---- bands
-number_same : (x y : ℤ) → same_number x y ≡ true → x ≡ y
-number_same (pos m) (pos n) e = ap pos (eqb-true m n e)
-number_same (pos m) (negsuc n) e = absurd (both_ways false refl e)
-number_same (negsuc m) (pos n) e = absurd (both_ways false refl e)
-number_same (negsuc m) (negsuc n) e = ap negsuc (eqb-true m n e)
-
-same_number_lem : (x : ℤ) → same_number x x ≡ true
-same_number_lem (pos m) = eq-eqb m m refl
-same_number_lem (negsuc m) = eq-eqb m m refl
-
 band_same : (a b : Band) → same_band a b ≡ true → a ≡ b
 band_same a b e =
-    let p = and_parts (same_number a.low b.low) (same_number a.high b.high) e in
-    let l = number_same a.low b.low p.0 in
-    let h = number_same a.high b.high p.1 in
+    let p = and_parts (int_eq a.low b.low) (int_eq a.high b.high) e in
+    let l = (Decides-int_eq a.low b.low).0 p.0 in
+    let h = (Decides-int_eq a.high b.high).0 p.1 in
     λ i. record { low = l i; high = h i }
 
 same_band_lem : (a b : Band) → a ≡ b → same_band a b ≡ true
-same_band_lem a b e = ap (λ c. same_band a c) (sym e) ∙ and_from _ _ (same_number_lem a.low) (same_number_lem a.high)
+same_band_lem a b e =
+    ap (λ c. same_band a c) (sym e) ∙ and_from _ _ ((Decides-int_eq a.low a.low).1 refl) ((Decides-int_eq a.high a.high).1 refl)
 
 pub band_laws : Laws in_band same_band
 band_laws =

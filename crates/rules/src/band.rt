@@ -30,6 +30,6 @@ impl Rule for InBand {
     }
 
     fn same(&self, one: &Band, other: &Band) -> bool {
-        one.low == other.low && one.high == other.high
+        one == other
     }
 }

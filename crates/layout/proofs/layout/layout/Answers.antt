@@ -2,7 +2,7 @@ use Rattle.std.proofs.Common.{Err, ap, ◌∙◌, arith}
 use Rattle.std.proofs.lemmas.Result.{err_from_is_err_and}
 use Rattle.listing.specs.Listings.{Listing}
 use Rattle.layout.specs.declared.fault.LayoutFault.TheVariants.{Check, ShortStarts, ShortEntries}
-use Rattle.layout.proofs.Answering.{few_blocks, fault_check, fault_starts, fault_entries, no_fault, refused_answer, refused_starts, refused_entries, made_answer, made_starts, made_entries}
+use Rattle.layout.proofs.Answering.{few_blocks, fault_check, fault_starts, fault_entries, no_fault, refused, made}
 use Rattle.layout.proofs.Refills.{refilled_from}
 use Rattle.layout.proofs.layout.layout.Goals as goal
 use Rattle.layout.proofs.layout.layout.Goals.{In_ok-counts}
@@ -18,13 +18,8 @@ returns-in_err-counts c =
     let es = c.args.entries.now in
     let p = err_from_is_err_and c.from_residual.result c.from_residual.ensures.1 in
     let fault = c.in_err-counts.field-0.0 in
-    let f = fault_check ws ss es c.check.result fault c.check.ensures.answer c.in_err-counts.was in
-    record {
-      answer = p.1 ∙ ap Err p.2 ∙ refused_answer ws ss es (Check fault) f;
-      starts = refused_starts ws ss es (Check fault) f;
-      entries = refused_entries ws ss es (Check fault) f;
-      means = rw p.1 tt;
-    }
+    let r = refused ws ss es (Check fault) (fault_check ws ss es c.check.result fault c.check.ensures.answer c.in_err-counts.was) in
+    record { answer = p.1 ∙ ap Err p.2 ∙ r.0; starts = r.1; entries = r.2; means = rw p.1 tt }
 
 pub overflow_add-counts : goal.overflow_add-counts
 overflow_add-counts c = let f = few_blocks c.args.words.now c.in_ok-counts.counts (listed (goal.at.overflow_add-counts c).In_ok-counts) in omega arith
@@ -35,8 +30,8 @@ returns-then-starts-counts c =
     let ss = c.args.starts.now in
     let es = c.args.entries.now in
     let l = listed (goal.at.returns-then-starts-counts c).In_ok-counts in
-    let f = fault_starts ws ss es c.in_ok-counts.counts l c.check.result c.check.ensures.answer c.in_ok-counts.was (omega arith) in
-    record { answer = refused_answer ws ss es ShortStarts f; starts = refused_starts ws ss es ShortStarts f; entries = refused_entries ws ss es ShortStarts f; means = tt }
+    let r = refused ws ss es ShortStarts (fault_starts ws ss es c.in_ok-counts.counts l c.check.result c.check.ensures.answer c.in_ok-counts.was (omega arith)) in
+    record { answer = r.0; starts = r.1; entries = r.2; means = tt }
 
 pub invariant_of-wires : goal.invariant_of-wires
 invariant_of-wires c = record { listed = listed (goal.at.invariant_of-wires c).In_ok-counts }
@@ -48,8 +43,8 @@ returns-then-entries-pairs c =
     let es = c.args.entries.now in
     let l = listed (goal.at.returns-then-entries-pairs c).In_ok-counts in
     let n = c.pairs-pairs.ensures in
-    let f = fault_entries ws ss es c.in_ok-counts.counts l c.check.result c.check.ensures.answer c.in_ok-counts.was (omega arith) (omega arith) in
-    record { answer = refused_answer ws ss es ShortEntries f; starts = refused_starts ws ss es ShortEntries f; entries = refused_entries ws ss es ShortEntries f; means = tt }
+    let r = refused ws ss es ShortEntries (fault_entries ws ss es c.in_ok-counts.counts l c.check.result c.check.ensures.answer c.in_ok-counts.was (omega arith) (omega arith)) in
+    record { answer = r.0; starts = r.1; entries = r.2; means = tt }
 
 pub returns : goal.returns
 returns c =
@@ -58,10 +53,10 @@ returns c =
     let es = c.args.entries.now in
     let l = listed (goal.at.returns c).In_ok-counts in
     let n = c.pairs-pairs.ensures in
-    let f = no_fault ws ss es c.in_ok-counts.counts l c.check.result c.check.ensures.answer c.in_ok-counts.was (omega arith) (omega arith) in
+    let m = made ws ss es c.pairs-pairs.result n (no_fault ws ss es c.in_ok-counts.counts l c.check.result c.check.ensures.answer c.in_ok-counts.was (omega arith) (omega arith)) in
     record {
-      answer = made_answer ws ss es c.pairs-pairs.result n f;
-      starts = c.write_starts.ensures ∙ made_starts ws ss es f;
-      entries = c.write_entries.ensures ∙ made_entries ws ss es f;
+      answer = m.0;
+      starts = c.write_starts.ensures ∙ m.1;
+      entries = c.write_entries.ensures ∙ m.2;
       means = refilled_from ws c.in_ok-counts.counts l ss es _ _ c.pairs-pairs.result c.write_starts.ensures c.write_entries.ensures n;
     }

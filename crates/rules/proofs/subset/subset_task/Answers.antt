@@ -1,13 +1,5 @@
 use Rattle.rules.proofs.Multigraphs.{sub_multigraphs}
 use Rattle.rules.proofs.subset.subset_task.Goals as goal
 
-pub returns : goal.returns
-returns g c =
-    let made = c.new.ensures in
-    record {
-      pattern = made.pattern;
-      program = made.program;
-      blocks = made.blocks;
-      pairs = made.pairs;
-      matching = sub_multigraphs _ _;
-    }
+pub returns-clause-matching : goal.returns-clause-matching
+returns-clause-matching g c = sub_multigraphs _ _

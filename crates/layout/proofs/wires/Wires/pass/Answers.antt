@@ -1,17 +1,23 @@
-use Rattle.std.proofs.Common.{◌≡◌, ℕ, ◌+◌, length, ◌∙◌, subst, arith}
+use Rattle.std.proofs.Common.{◌≡◌, ℕ, ◌+◌, ◌<◌, length, get_or, ap, ◌∙◌, subst, arith}
+use Rattle.listing.specs.Words.{wire_from}
+use Rattle.listing.specs.Checks.{wire_word}
 use Rattle.layout.specs.Passes.{Below}
-use Rattle.layout.proofs.Listed.{entries_to, wire_count}
+use Rattle.layout.proofs.Listed.{entries_to, wire_count, wire_at}
 use Rattle.layout.proofs.Passing.{passing, few_pairs, next_wire, pairs_open, pairs_add, start_found, start_end}
 use Rattle.layout.proofs.wires.Wires.pass.Goals as goal
-use Rattle.layout.proofs.wires.Wires.pass.Goals.{then-opens, else-opens}
+use Rattle.layout.proofs.wires.Wires.pass.Goals.{In-loop-wire, then-opens, else-opens}
 
-pub returns-then-from-row : goal.returns-then-from-row
-returns-then-from-row c =
-    record {
-      below = c.loop-wire.invariant;
-      start = start_found c.args.self.now.words.now c.args.self.now.counts c.args.self.now.listed c.args.row c.loop-wire.wire c.loop-wire.pairs c.requires.row c.loop-wire.invariant
-          (omega arith);
-    }
+-- the word that a turn looks at is that of its wire
+word_at : (c : In-loop-wire) → get_or c.wire_words-words.result.now c.loop-wire.wire 0 ≡ wire_word c.args.self.now.words.now c.args.self.now.counts c.loop-wire.wire
+word_at c =
+    let len = c.wire_words-words.ensures.len in
+    ap (λ ws. get_or ws c.loop-wire.wire 0) c.wire_words-words.ensures.value
+    ∙ wire_at c.args.self.now.words.now c.args.self.now.counts c.args.self.now.listed c.loop-wire.wire (omega arith)
+
+pub returns-then-from-row-clause-start : goal.returns-then-from-row-clause-start
+returns-then-from-row-clause-start c =
+    let at = ap wire_from (word_at (goal.at.returns-then-from-row-clause-start c).In-loop-wire) in
+    start_found c.args.self.now.words.now c.args.self.now.counts c.args.self.now.listed c.args.row c.loop-wire.wire c.loop-wire.pairs c.requires.row c.loop-wire.invariant (omega arith)
 
 pub overflow_add-pairs : goal.overflow_add-pairs
 overflow_add-pairs c =
@@ -23,20 +29,22 @@ loop-wire-preserved c =
     let ws = c.args.self.now.words.now in
     let l = c.args.self.now.listed in
     let i = c.loop-wire.wire in
+    let len = c.wire_words-words.ensures.len in
+    let h : i < c.args.self.now.counts.wires = omega arith in
+    let at = ap wire_from (word_at (goal.at.loop-wire-preserved c).In-loop-wire) in
     let p = c.loop-wire.pairs in
     let count : c.if-opens.pairs ≡ length (entries_to ws (i + 1)) =
     elim c.if-opens.branch [
-      | then-opens w ↦ w.pairs-is ∙ pairs_open ws c.args.self.now.counts l c.args.row i p c.loop-wire.invariant c.loop-wire-test.true w.if-opens.ensures
-      | else-opens w ↦ w.pairs-is ∙ pairs_add ws c.args.self.now.counts l c.args.row i p c.loop-wire.invariant c.loop-wire-test.true w.if-opens.ensures
+      | then-opens w ↦ w.pairs-is ∙ pairs_open ws c.args.self.now.counts l c.args.row i p c.loop-wire.invariant h w.if-opens.ensures
+      | else-opens w ↦ w.pairs-is ∙ pairs_add ws c.args.self.now.counts l c.args.row i p c.loop-wire.invariant h w.if-opens.ensures
     ] in
-    next_wire ws c.args.self.now.counts l c.args.row i p c.if-opens.pairs c.loop-wire.invariant c.loop-wire-test.true (omega arith) count
+    next_wire ws c.args.self.now.counts l c.args.row i p c.if-opens.pairs c.loop-wire.invariant h (omega arith) count
 
-pub returns : goal.returns
-returns c =
-    let ws = c.args.self.now.words.now in
-    let l = c.args.self.now.listed in
-    let m = wire_count ws c.args.self.now.counts l in
+pub returns-clause-start : goal.returns-clause-start
+returns-clause-start c =
+    let s = c.args.self.now in
+    let m = wire_count s.words.now s.counts s.listed in
+    let len = c.wire_words-words.ensures.len in
     let w = c.requires.below.within in
-    let end : c.loop-wire.wire ≡ c.args.self.now.counts.wires = omega arith in
-    let b = subst (λ (n : ℕ). Below ws c.args.row (passing n c.loop-wire.pairs)) end c.loop-wire.invariant in
-    record { below = b; start = start_end ws c.args.self.now.counts l c.args.row c.loop-wire.pairs c.requires.row b }
+    let end : c.loop-wire.wire ≡ s.counts.wires = omega arith in
+    start_end s.words.now s.counts s.listed c.args.row c.loop-wire.pairs c.requires.row (subst (λ (n : ℕ). Below s.words.now c.args.row (passing n c.loop-wire.pairs)) end c.loop-wire.invariant)
