@@ -20,7 +20,7 @@ impl From<Fault> for ProposalFault {
     ghost from_gives = { λ fault found. found ≡ Check fault };
 
     fn from(fault: Fault) -> ProposalFault {
-        ProposalFault::Check(fault)
+        Self::Check(fault)
     }
 }
 
