@@ -77,7 +77,7 @@ impl<'a> ListingStore<'a> {
         let start = 1 + self.counts.blocks;
         let end = start + self.counts.wires;
         match self.words.get(start..end) {
-            Some(words) => words,
+            Some(wires) => wires,
             None => &[],
         }
     }
