@@ -1,6 +1,6 @@
-ghost use Rattle.std.specs.Prelude.{◌≡◌, ◌≤◌, true, [], ◌++◌, drop, is_ok, if◌then◌else◌};
+ghost use Rattle.std.specs.Prelude.{◌≡◌, ◌≤◌, true, [], ◌++◌, drop, is_ok, if◌then◌else◌, IfOk};
 ghost use Rattle.model.specs.Graphs.{block_count};
-ghost use Rattle.stores.specs.ListingStores.{is_read, read_answer, gathered};
+ghost use Rattle.stores.specs.ListingStores.{is_read, fault_part, read_answer, gathered};
 ghost use Rattle.listing.specs.Graphs.{stated};
 ghost use Rattle.listing.specs.Listings.{counts_of, block_words, wire_words};
 
@@ -34,15 +34,22 @@ impl<'a> ListingStore<'a> {
         }
     }
 
+    /// The store of a listing's words. Words that are no listing are refused as the check refuses them.
+    pub fn of(words: &'a [u32]) -> Result<ListingStore<'a>, Fault>
+        ensures answer { fault_part result ≡ read_answer words.now }
+        ensures holds { IfOk result (λ s. s.words.now ≡ words.now) }
+    {
+        let counts = check(words)?;
+        Ok(ListingStore { words, counts })
+    }
+
     /// Makes it the store of a listing's words. Words that are no listing are refused as the check refuses them, and the
     /// store is then left as it was.
     pub fn read(&mut self, words: &'a [u32]) -> Result<(), Fault>
         ensures answer { result ≡ read_answer words.now }
         ensures left { self.new.words.now ≡ (if is_ok result then words.now else self.old.words.now) }
     {
-        let counts = check(words)?;
-        self.words = words;
-        self.counts = counts;
+        *self = ListingStore::of(words)?;
         Ok(())
     }
 
