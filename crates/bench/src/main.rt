@@ -102,8 +102,9 @@ fn main(rt: HostRuntime) -> anyhow::Result<()> {
         types: Set::EMPTY,
     }; MOST_WIRES];
     let start = Instant::now(&rt)?;
-    let laid = layout(&words, &mut starts, &mut entries)
-        .map_err(|_| anyhow!("the listing is not laid out"))?;
+    let laid = layout(&words, &mut starts, &mut entries).map_err(|_| anyhow!(
+        "the listing is not laid out"
+    ))?;
     tell(&rt, "layout of 192 blocks and 1024 wires", start, 1)?;
     println!(rt; "layout: {laid} entries")?;
     if laid > MOST_WIRES || count > MOST_BLOCKS {
