@@ -11,9 +11,6 @@ pub trait Rule {
 
     ghost same: { Self → Self.Pattern → Self.Pattern → Bool };
 
-    // What every rule owes.
-    ghost laws: { (s : Self) → Laws (fits s) (same s) };
-
     /// Whether a pattern label fits a program label.
     fn fits(&self, pattern: &Self::Pattern, program: &Self::Program) -> bool
         ensures { result ≡ fits self.now pattern.now program.now };
@@ -21,4 +18,7 @@ pub trait Rule {
     /// Whether two pattern labels are the same.
     fn same(&self, one: &Self::Pattern, other: &Self::Pattern) -> bool
         ensures { result ≡ same self.now one.now other.now };
+
+    // What every rule owes.
+    ghost laws: { (s : Self) → Laws (fits s) (same s) };
 }
