@@ -5,3 +5,4 @@ pub mod Rising
 pub mod Ranges
 pub mod Words
 pub mod Firsts
+pub mod Items

@@ -1,9 +1,8 @@
 -- Lists that rise in a relation: one list for each set.
-use Rattle.std.proofs.Common.{◌≡◌, Bool, true, false, cond, ◌⊎◌, List, [], ◌∷◌, ◌++◌, map, filter, sym, refl, ◌∙◌, subst, ap₂, inl, inr}
+use Rattle.std.proofs.Common.{◌≡◌, Bool, true, false, cond, ◌⊎◌, List, [], ◌∷◌, ◌++◌, map, filter, sym, refl, ◌∙◌, subst, ap₂, inl, inr, ⊎_elim}
 use Rattle.std.specs.List.{flat_map}
-use Rattle.std.proofs.ByRecursion.{All-append, all_kept_by}
 use Rattle.lists.specs.Members.{In, Within, Distinct, Rising}
-use Rattle.lists.proofs.Members.{in_all, all_in, map_in, joined_in}
+use Rattle.lists.proofs.Members.{in_all, all_in, in_append_cases, kept_in, map_in, joined_in}
 
 module _ {X : Type 0} (R : X → X → Type 0) where
   pub rising_kept : (p : X → Bool) (xs : List X) → Rising R xs → Rising R (filter p xs)
@@ -11,13 +10,13 @@ module _ {X : Type 0} (R : X → X → Type 0) where
   rising_kept p (x ∷ xs) r = go (p x) (rising_kept p xs r.1)
     where
       go : (b : Bool) → Rising R (filter p xs) → Rising R (cond b (x ∷ filter p xs) (filter p xs))
-      go true s = (all_kept_by p (R x) xs r.0, s)
+      go true s = (all_in (R x) (filter p xs) (λ z i. in_all (R x) xs z r.0 (kept_in p xs z i).0), s)
       go false s = s
 
   pub rising_append : (xs ys : List X) → Rising R xs → Rising R ys → ((y z : X) → In y xs → In z ys → R y z) → Rising R (xs ++ ys)
   rising_append [] ys r s h = s
   rising_append (x ∷ xs) ys r s h = (
-    All-append (R x) xs ys r.0 (all_in (R x) ys (λ z i. h x z (inl refl) i)),
+    all_in (R x) (xs ++ ys) (λ z i. ⊎_elim (in_all (R x) xs z r.0) (λ j. h x z (inl refl) j) (in_append_cases xs ys z i)),
     rising_append xs ys r.1 s (λ y z i j. h y z (inr i) j),
   )
 

@@ -1,9 +1,9 @@
 -- Membership in a set that a test names, in a union and in a common part; sets with the same members are one.
-use Rattle.std.proofs.Common.{◌≡◌, ℕ, zero, suc, ◌+◌, ◌*◌, ◌/◌, ◌%◌, ◌^◌, ◌<◌, ◌≤◌, min, max, Bool, true, false, cond, ◌&&◌, ◌||◌, eqb, Decides, sym, refl, ap, ◌∙◌, ⊎_elim, add-zero, add-suc, suc-add, pow-suc, add-one, one-add, arith, pow_mono}
+use Rattle.std.proofs.Common.{◌≡◌, ℕ, zero, suc, ◌+◌, ◌*◌, ◌/◌, ◌%◌, ◌^◌, ◌<◌, ◌≤◌, min, max, Bool, true, false, cond, ◌&&◌, ◌||◌, eqb, Decides, sym, refl, ap, ◌∙◌, ⊎_elim, add-zero, add-suc, suc-add, pow-suc, one-add, arith, pow_mono}
 use native.Mathlib.Nat.{div-eq_of_lt, zero-div}
 use lib.Bits.{bit_and, bit_or, and_step, or_step, and_shr, or_shr, and_lt}
 use Rattle.std.proofs.lemmas.Nat.{shr-shr}
-use Rattle.std.proofs.lemmas.Bool.{ne_eqb, eq-eqb, eqb-true, and_from, and_parts, cases_lt, both_ways}
+use Rattle.std.proofs.lemmas.Bool.{ne_eqb, eq-eqb, eqb-true, and_parts, cases_lt, both_ways}
 use Rattle.std.proofs.lemmas.Bool.Decides.{nat_tests, Decides-below_and, Decides-like, same_from_decides}
 use Rattle.sets.specs.Sets.{has, set_from, set_of, Member, every_below, implies, agree, is_subset, same_set}
 use Rattle.sets.specs.declared.Set.{Set}
@@ -206,17 +206,9 @@ same_word s t hs ht = same_from_decides _ _ words (decides_same s t)
           (λ k. ⊎_elim (all k) (λ h. has_past s.0 k hs h ∙ sym (has_past t.0 k ht h)) (cases_lt k 32))),
     )
 
-pub or_assoc : (a b c : Bool) → (a || (b || c)) ≡ (a || b || c)
-or_assoc true b c = refl
-or_assoc false b c = refl
-
 pub or_nothing : (x y : Bool) → y ≡ false → (x || y) ≡ x
 or_nothing true y e = refl
 or_nothing false y e = e
-
--- ---- every_below, one number at a time
-pub every_more : (t : ℕ → Bool) (n : ℕ) → every_below n t ≡ true → t n ≡ true → every_below (n + 1) t ≡ true
-every_more t n h e = ap (λ m. every_below m t) (add-one n) ∙ and_from (t n) (every_below n t) e h
 
 pub every_fails : (t : ℕ → Bool) (n j : ℕ) → j < n → t j ≡ false → every_below n t ≡ false
 every_fails t n j l e = go (every_below n t) refl
