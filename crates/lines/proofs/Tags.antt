@@ -1,10 +1,10 @@
 -- The text of a tag set, tag by tag, and how long it is.
-use Rattle.std.proofs.Common.{◌≡◌, ℕ, zero, suc, ◌+◌, ◌*◌, ◌<◌, ◌≤◌, min, true, false, List, [], ◌∷◌, ◌++◌, length, codes, decimal, sym, refl, ap, ◌∙◌, ⊎_elim, zero-add, add-one, arith, append_assoc, append-nil}
+use Rattle.std.proofs.Common.{◌≡◌, ℕ, zero, suc, ◌+◌, ◌*◌, ◌<◌, ◌≤◌, min, true, false, List, [], ◌++◌, length, codes, decimal, sym, refl, ap, ◌∙◌, ⊎_elim, zero-add, add-one, arith, append_assoc, append-nil}
 use Rattle.lines.specs.GraphLines.{tag_text, tags_below}
 use Rattle.sets.specs.Sets.{has}
-use Rattle.std.proofs.lemmas.List.FromFn.{map-range_with_len_more}
+use Rattle.lists.proofs.Ranges.{counting_more}
 use Rattle.std.proofs.lemmas.Fmt.{decimal_digit, length-decimal-le}
-use Rattle.std.proofs.lemmas.List.{flat_map_more, length-append, map-id}
+use Rattle.std.proofs.lemmas.List.{flat_map_more, length-append}
 use Rattle.std.proofs.lemmas.Bool.{cases_lt, cond_both, cond-false, cond-true}
 use Rattle.std.specs.List.{range_with_len, flat_map}
 
@@ -19,14 +19,10 @@ pub tag_present : (s k : ℕ) → has k s ≡ true → tag_text s k ≡ codes " 
 unfolding tag_text
 tag_present s k inside = cond-true (has k s) _ _ inside
 
-counting_more : (n : ℕ) → range_with_len 0 (n + 1) ≡ range_with_len 0 n ++ n ∷ []
-counting_more n =
-    sym (map-id (range_with_len 0 (n + 1))) ∙ map-range_with_len_more (λ (k : ℕ). k) 0 n n (zero-add n) ∙ ap (λ (ks : List ℕ). ks ++ n ∷ []) (map-id (range_with_len 0 n))
-
 -- one more tag
 pub tags_more : (n s : ℕ) → tags_below n s ++ tag_text s n ≡ tags_below (n + 1) s
 unfolding tags_below
-tags_more n s = flat_map_more (tag_text s) [] (range_with_len 0 n) n ∙ ap (flat_map (tag_text s)) (sym (counting_more n))
+tags_more n s = flat_map_more (tag_text s) [] (range_with_len 0 n) n ∙ ap (flat_map (tag_text s)) (sym (counting_more 0 n n (zero-add n)))
 
 pub tags_none : (s : ℕ) → tags_below 0 s ≡ []
 unfolding tags_below
