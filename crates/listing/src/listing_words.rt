@@ -27,7 +27,8 @@ impl<'a> ListingWords<'a> {
 
     /// How many blocks and how many wires it has.
     pub fn counts(&self) -> Counts
-        ensures { result ≡ self.now.counts }
+        ensures value { result ≡ self.now.counts }
+        ensures listed { Listing self.now.words.now result }
     {
         self.counts
     }
