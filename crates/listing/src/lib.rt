@@ -5,4 +5,5 @@ pub mod check;
 pub mod counts;
 pub mod fault;
 pub mod file;
+pub mod listing_words;
 pub mod word;
