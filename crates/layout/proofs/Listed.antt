@@ -1,5 +1,5 @@
 -- The wires of a listing stand in the order of their pairs, and a test on two words tells whether a wire opens a pair.
-use Rattle.std.proofs.Common.{◌≡◌, ℕ, zero, suc, ◌+◌, ◌-◌, ◌/◌, ◌^◌, ◌<◌, ◌≤◌, Bool, true, false, not, ◌||◌, eqb, leb, List, [], ◌∷◌, ◌++◌, length, get_or, sym, refl, ap, ◌∙◌, subst, ⊎_elim, add-zero, arith}
+use Rattle.std.proofs.Common.{◌≡◌, ℕ, zero, suc, ◌+◌, ◌-◌, ◌/◌, ◌^◌, ◌<◌, ◌≤◌, Bool, true, false, not, ◌||◌, eqb, List, [], ◌∷◌, ◌++◌, length, get_or, sym, refl, ap, ◌∙◌, subst, ⊎_elim, add-zero, arith}
 use Rattle.std.proofs.lemmas.Nat.{mod_below}
 use Rattle.std.proofs.lemmas.List.{take_all, length-append}
 use Rattle.std.proofs.lemmas.Bool.{or_cases, or_parts, eq-eqb, eqb-true, not-true, not-false, cases_Bool, both_ways, cases_eq}
@@ -7,10 +7,10 @@ use Rattle.sets.specs.Sets.{set, added}
 use Rattle.sets.specs.declared.Set.{Set}
 use Rattle.stores.specs.declared.entry.Entry.{Entry}
 use Rattle.listing.specs.declared.counts.Counts.{Counts}
-use Rattle.listing.specs.Words.{wire_from, wire_to, wire_type, block_tags, kind, opening_blocks, opening_wires, is_wire, is_block}
+use Rattle.listing.specs.Words.{wire_from, wire_to, wire_type, is_wire}
 use Rattle.listing.specs.Listings.{Listing, word, counts_of, wire_words}
 use Rattle.listing.specs.Graphs.{stated}
-use Rattle.listing.proofs.Fields.{block_is, wire_is, wire_ends}
+use Rattle.listing.proofs.Fields.{wire_is, wire_ends}
 use Rattle.listing.proofs.Parts.{length-wire_words, get_or-wire_words, length_tags}
 use Rattle.layout.specs.Layouts.{entry, entries_of, start_of}
 use Rattle.layout.specs.Passes.{drawn, early}

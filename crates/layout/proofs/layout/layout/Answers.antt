@@ -4,7 +4,7 @@ use Rattle.listing.specs.Listings.{Listing}
 use Rattle.listing.specs.Graphs.{stated}
 use Rattle.layout.specs.Layouts.{starts_of, entries_of, laid}
 use Rattle.layout.specs.declared.fault.LayoutFault.TheVariants.{Check, ShortStarts, ShortEntries}
-use Rattle.layout.proofs.Answering.{few_blocks, fault_check, fault_starts, fault_entries, no_fault, refused, made}
+use Rattle.layout.proofs.Answering.{fault_check, fault_starts, fault_entries, no_fault, refused, made}
 use Rattle.layout.proofs.Refills.{refilled_from}
 use Rattle.layout.proofs.layout.layout.Goals as goal
 use Rattle.layout.proofs.layout.layout.Goals.{After-counts-counts}
@@ -22,9 +22,6 @@ returns-in_err-listing c =
     let fault = c.in_err-listing.field-0.0 in
     let r = refused ws ss es (Check fault) (fault_check ws ss es fault c.in_err-listing.ensures.answer) in
     record { answer = p.1 ∙ ap Err p.2 ∙ r.0; starts = r.1; entries = r.2; means = rw p.1 tt }
-
-pub overflow_add-counts : goal.overflow_add-counts
-overflow_add-counts c = let f = few_blocks c.args.words.now c.counts-counts.result (listed (goal.at.overflow_add-counts c).After-counts-counts) in omega arith
 
 pub returns-then-starts-counts : goal.returns-then-starts-counts
 returns-then-starts-counts c =
