@@ -1,36 +1,29 @@
 -- What the layout answers and leaves, at each of its ends.
-use Rattle.std.proofs.Common.{◌≡◌, ℕ, ◌+◌, ◌<◌, ◌≤◌, false, ltb, List, length, Some, None, Ok, Err, Result, sym, ap, ◌∙◌, arith}
-use Rattle.std.proofs.lemmas.Nat.{mod_below}
+use Rattle.std.proofs.Common.{◌≡◌, ℕ, ◌+◌, ◌<◌, ◌≤◌, false, ltb, List, length, Some, None, Ok, Err, sym, ap, ◌∙◌, arith}
 use Rattle.std.proofs.lemmas.Bool.{cond-true, cond-false, lt-ltb, le-ltb}
 use Rattle.stores.specs.declared.entry.Entry.{Entry}
 use Rattle.listing.specs.declared.counts.Counts.{Counts}
 use Rattle.listing.specs.declared.fault.Fault.{Fault}
-use Rattle.listing.specs.Words.{opening_blocks}
-use Rattle.listing.specs.Listings.{Listing, word}
+use Rattle.listing.specs.Listings.{Listing}
 use Rattle.listing.specs.Faults.{verdict}
 use Rattle.listing.specs.Graphs.{stated}
+use Rattle.listing.proofs.Accepts.{accepts}
 use Rattle.layout.specs.declared.fault.LayoutFault.{LayoutFault}
 use Rattle.layout.specs.declared.fault.LayoutFault.TheVariants.{Check, ShortStarts, ShortEntries}
 use Rattle.layout.specs.Layouts.{entries_of, start_of, starts_of, laid, fault_of, fault_for, answer_by, left_by, layout_answer, starts_left, entries_left}
 use Rattle.layout.proofs.Listed.{label_count, entries_in_total}
-
-pub few_blocks : (ws : List ℕ) (c : Counts) → Listing ws c → c.blocks < 65536
-few_blocks ws c l =
-    let e = ap (λ (d : Counts). d.blocks) l.counts in
-    let m : opening_blocks (word ws 0) < 65536 = mod_below _ 65536 (omega arith) in
-    omega arith
 
 pub entry_count : (ws : List ℕ) (c : Counts) → Listing ws c → (n : ℕ) → n ≡ start_of (stated ws) c.blocks → n ≡ length (entries_of (stated ws))
 entry_count ws c l n e = e ∙ sym (entries_in_total ws c l)
 
 module _ (ws ss : List ℕ) (es : List Entry) where
   -- ---- which fault
-  pub fault_check : (r : Result Counts Fault) (f : Fault) → r ≡ verdict ws → r ≡ Err f → fault_for ws ss es ≡ Some (Check f)
-  fault_check r f e h = ap (fault_of (stated ws) (length ss) (length es)) (sym e ∙ h)
+  pub fault_check : (f : Fault) → Err f ≡ verdict ws → fault_for ws ss es ≡ Some (Check f)
+  fault_check f e = ap (fault_of (stated ws) (length ss) (length es)) (sym e)
 
-  module _ (c : Counts) (l : Listing ws c) (r : Result Counts Fault) (e : r ≡ verdict ws) (h : r ≡ Ok c) where
+  module _ (c : Counts) (l : Listing ws c) where
     accepted : fault_for ws ss es ≡ fault_of (stated ws) (length ss) (length es) (Ok c)
-    accepted = ap (fault_of (stated ws) (length ss) (length es)) (sym e ∙ h)
+    accepted = ap (fault_of (stated ws) (length ss) (length es)) ((accepts ws c).1 l)
 
     pub fault_starts : length ss < c.blocks + 1 → fault_for ws ss es ≡ Some ShortStarts
     fault_starts low = let n = label_count ws c l in accepted ∙ cond-true _ _ _ (lt-ltb (length ss) (length (stated ws).labels + 1) (omega arith))

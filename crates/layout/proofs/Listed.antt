@@ -1,16 +1,16 @@
 -- The wires of a listing stand in the order of their pairs, and a test on two words tells whether a wire opens a pair.
-use Rattle.std.proofs.Common.{◌≡◌, ℕ, zero, suc, ◌+◌, ◌-◌, ◌/◌, ◌^◌, ◌<◌, ◌≤◌, Bool, true, false, not, ◌&&◌, eqb, leb, List, [], ◌∷◌, ◌++◌, length, get_or, sym, ap, ◌∙◌, subst, ⊎_elim, add-zero, arith}
+use Rattle.std.proofs.Common.{◌≡◌, ℕ, zero, suc, ◌+◌, ◌-◌, ◌/◌, ◌^◌, ◌<◌, ◌≤◌, Bool, true, false, not, ◌||◌, eqb, List, [], ◌∷◌, ◌++◌, length, get_or, sym, refl, ap, ◌∙◌, subst, ⊎_elim, add-zero, arith}
 use Rattle.std.proofs.lemmas.Nat.{mod_below}
 use Rattle.std.proofs.lemmas.List.{take_all, length-append}
-use Rattle.std.proofs.lemmas.Bool.{and_parts, leb-true, eq-eqb, eqb-true, not-true, not-false, cases_Bool, both_ways, cases_eq}
+use Rattle.std.proofs.lemmas.Bool.{or_cases, or_parts, eq-eqb, eqb-true, not-true, not-false, cases_Bool, both_ways, cases_eq}
 use Rattle.sets.specs.Sets.{set, added}
 use Rattle.sets.specs.declared.Set.{Set}
 use Rattle.stores.specs.declared.entry.Entry.{Entry}
 use Rattle.listing.specs.declared.counts.Counts.{Counts}
-use Rattle.listing.specs.Words.{wire_from, wire_to, wire_type, block_tags, kind, opening_blocks, opening_wires, is_wire, is_block}
+use Rattle.listing.specs.Words.{wire_from, wire_to, wire_type, is_wire}
 use Rattle.listing.specs.Listings.{Listing, word, counts_of, wire_words}
 use Rattle.listing.specs.Graphs.{stated}
-use Rattle.listing.proofs.Fields.{block_is, wire_is, wire_ends}
+use Rattle.listing.proofs.Fields.{wire_is, wire_ends}
 use Rattle.listing.proofs.Parts.{length-wire_words, get_or-wire_words, length_tags}
 use Rattle.layout.specs.Layouts.{entry, entries_of, start_of}
 use Rattle.layout.specs.Passes.{drawn, early}
@@ -26,12 +26,9 @@ pair_is b w h =
 key_rises : (b x y : ℕ) → is_wire b x ≡ true → is_wire b y ≡ true → x ≤ y → key x ≤ key y
 key_rises b x y h k l = let p = pair_is b x h in let q = pair_is b y k in omega arith
 
-block_pair : (w : ℕ) → is_block w ≡ true → w / 16384 < 131072
-block_pair w h = let e = block_is w h in let t : block_tags w < 16777216 = mod_below _ 16777216 (omega arith) in omega arith
-
--- the test for a wire that opens a pair
-abbrev pub open_test : List ℕ → Counts → ℕ → Bool
-open_test ws c i = not (eqb (word ws (c.blocks + i) / 2 ^ 14) (word ws (1 + c.blocks + i) / 2 ^ 14))
+-- the test for a wire that opens a pair: the first of the wire words, or one of another pair than the one before it
+abbrev pub open_test : List ℕ → ℕ → Bool
+open_test es i = eqb i 0 || not (eqb (get_or es (i - 1) 0 / 2 ^ 14) (get_or es i 0 / 2 ^ 14))
 
 -- the entries that the first i wires make
 abbrev pub entries_to : List ℕ → ℕ → List Entry
@@ -91,67 +88,45 @@ module _ (ws : List ℕ) (c : Counts) (l : Listing ws c) where
             omega arith;
       }
 
-  some_block : 1 ≤ c.blocks
-  some_block =
-      let w : ℕ = word ws 0 in
-      let most : Bool = leb (opening_blocks w) 192 && leb (opening_wires w) 1024 in
-      let rest = (and_parts (eqb (kind w) 0) (leb 1 (opening_blocks w) && most) l.opening).1 in
-      let some = leb-true 1 (opening_blocks w) (and_parts (leb 1 (opening_blocks w)) most rest).0 in
-      let e = ap (λ (d : Counts). d.blocks) l.counts in
-      omega arith
+  -- the pair of a wire, as its word gives it
+  pair_of : (i : ℕ) → i < c.wires → get_or (wire_words ws) i 0 / 16384 ≡ 131072 + key (get_or (wire_words ws) i 0)
+  pair_of i h = pair_is c.blocks _ (subst (λ w. is_wire c.blocks w ≡ true) (sym (wire_at i h)) (l.wire i h))
 
-  -- the words of two wires, one after the other
-  pair_at_lem : (i : ℕ) → i < c.wires → word ws (1 + c.blocks + i) / 16384 ≡ 131072 + key (get_or (wire_words ws) i 0)
-  pair_at_lem i h = pair_is c.blocks _ (l.wire i h) ∙ ap (λ w. 131072 + key w) (sym (wire_at i h))
-
-  pair_before : (i : ℕ) → 0 < i → i < c.wires → word ws (c.blocks + i) / 16384 ≡ 131072 + key (get_or (wire_words ws) (i - 1) 0)
-  pair_before i p h =
-      let at : c.blocks + i ≡ 1 + c.blocks + (i - 1) = omega arith in
-      ap (λ k. word ws k / 16384) at ∙ pair_at_lem (i - 1) (omega arith)
-
-  new_pair : (i : ℕ) → i < c.wires → open_test ws c i ≡ true → (j : ℕ) → j < i → key (get_or (wire_words ws) j 0) < key (get_or (wire_words ws) i 0)
+  new_pair : (i : ℕ) → i < c.wires → open_test (wire_words ws) i ≡ true → (j : ℕ) → j < i → key (get_or (wire_words ws) j 0) < key (get_or (wire_words ws) i 0)
   new_pair i h t j low =
       let m = wire_count in
-      let a = pair_before i (omega arith) h in
-      let b = pair_at_lem i h in
+      let a = pair_of (i - 1) (omega arith) in
+      let b = pair_of i h in
       let r = ordered.rise j (i - 1) (omega arith) (omega arith) in
       let s = ordered.rise (i - 1) i (omega arith) (omega arith) in
-      let apart : key (get_or (wire_words ws) (i - 1) 0) ≡ key (get_or (wire_words ws) i 0) → ⊥ = λ e. both_ways _ (not-true _ t) (eq-eqb _ _ (a ∙ ap (λ k. 131072 + k) e ∙ sym b)) in
+      let other : not (eqb (get_or (wire_words ws) (i - 1) 0 / 2 ^ 14) (get_or (wire_words ws) i 0 / 2 ^ 14)) ≡ true = ⊎_elim (λ z. let none = eqb-true i 0 z in absurd (omega arith)) (λ o. o) (or_cases (eqb i 0) _ t) in
+      let apart : key (get_or (wire_words ws) (i - 1) 0) ≡ key (get_or (wire_words ws) i 0) → ⊥ = λ e. both_ways _ (not-true _ other) (eq-eqb _ _ (a ∙ ap (λ k. 131072 + k) e ∙ sym b)) in
       ⊎_elim (λ e. absurd (apart e)) (λ n. omega arith) (cases_eq (key (get_or (wire_words ws) (i - 1) 0)) (key (get_or (wire_words ws) i 0)))
 
-  first_opens : open_test ws c 0 ≡ false → 0 < c.wires → ⊥
-  first_opens t h =
-      let e = eqb-true _ _ (not-false _ t) in
-      let p = pair_at_lem 0 h in
-      let some = some_block in
-      let at : c.blocks + 0 ≡ 1 + (c.blocks - 1) = omega arith in
-      let q = block_pair (word ws (1 + (c.blocks - 1))) (l.block (c.blocks - 1) (omega arith)) in
-      let f = ap (λ k. word ws k / 16384) at in
-      omega arith
+  later : (i : ℕ) → open_test (wire_words ws) i ≡ false → 0 < i
+  later zero t = absurd (both_ways true t refl)
+  later (suc i) t = omega arith
 
-  later : (i : ℕ) → i < c.wires → open_test ws c i ≡ false → 0 < i
-  later zero h t = absurd (first_opens t h)
-  later (suc i) h t = omega arith
-
-  same_pair : (i : ℕ) → i < c.wires → open_test ws c i ≡ false → key (get_or (wire_words ws) (i - 1) 0) ≡ key (get_or (wire_words ws) i 0)
+  same_pair : (i : ℕ) → i < c.wires → open_test (wire_words ws) i ≡ false → key (get_or (wire_words ws) (i - 1) 0) ≡ key (get_or (wire_words ws) i 0)
   same_pair i h t =
-      let e = eqb-true _ _ (not-false _ t) in
-      let a = pair_before i (later i h t) h in
-      let b = pair_at_lem i h in
+      let e = eqb-true _ _ (not-false _ (or_parts (eqb i 0) _ t).1) in
+      let some = later i t in
+      let a = pair_of (i - 1) (omega arith) in
+      let b = pair_of i h in
       omega arith
 
   -- ---- what one wire more adds to the entries
-  pub entries_open : (i : ℕ) → i < c.wires → open_test ws c i ≡ true
+  pub entries_open : (i : ℕ) → i < c.wires → open_test (wire_words ws) i ≡ true
       → entries_to ws (i + 1) ≡ entries_to ws i ++ entry (wire_to (word ws (1 + c.blocks + i))) (added (wire_type (word ws (1 + c.blocks + i))) (set 0)) ∷ []
   entries_open i h t =
       let m = wire_count in
       opens_entry (stated ws).labels (wire_words ws) ordered i (omega arith) (new_pair i h t)
       ∙ ap (λ w. entries_to ws i ++ entry (wire_to w) (added (wire_type w) (set 0)) ∷ []) (wire_at i h)
 
-  pub entries_add : (i : ℕ) → i < c.wires → open_test ws c i ≡ false → Grows ws c i
+  pub entries_add : (i : ℕ) → i < c.wires → open_test (wire_words ws) i ≡ false → Grows ws c i
   entries_add i h t =
       let m = wire_count in
-      let g = adds_type (stated ws).labels (wire_words ws) ordered i (omega arith) (later i h t) (same_pair i h t) in
+      let g = adds_type (stated ws).labels (wire_words ws) ordered i (omega arith) (later i t) (same_pair i h t) in
       record {
         rest = g.rest;
         types = g.types;
@@ -159,10 +134,10 @@ module _ (ws : List ℕ) (c : Counts) (l : Listing ws c) where
         next = g.next ∙ ap (λ w. g.rest ++ entry (wire_to w) (added (wire_type w) g.types) ∷ []) (wire_at i h);
       }
 
-  pub length_open : (i : ℕ) → i < c.wires → open_test ws c i ≡ true → length (entries_to ws (i + 1)) ≡ length (entries_to ws i) + 1
+  pub length_open : (i : ℕ) → i < c.wires → open_test (wire_words ws) i ≡ true → length (entries_to ws (i + 1)) ≡ length (entries_to ws i) + 1
   length_open i h t = ap length (entries_open i h t) ∙ length-append (entries_to ws i) _
 
-  pub length_add : (i : ℕ) → i < c.wires → open_test ws c i ≡ false
+  pub length_add : (i : ℕ) → i < c.wires → open_test (wire_words ws) i ≡ false
       → (length (entries_to ws (i + 1)) ≡ length (entries_to ws i)) × (0 < length (entries_to ws i))
   length_add i h t =
       let g = entries_add i h t in
@@ -172,7 +147,7 @@ module _ (ws : List ℕ) (c : Counts) (l : Listing ws c) where
 
   length_step : (i : ℕ) → i < c.wires → (length (entries_to ws i) ≤ length (entries_to ws (i + 1))) × (length (entries_to ws (i + 1)) ≤ length (entries_to ws i) + 1)
   length_step i h =
-      ⊎_elim (λ t. let e = length_open i h t in (omega arith, omega arith)) (λ t. let e = (length_add i h t).0 in (omega arith, omega arith)) (cases_Bool (open_test ws c i))
+      ⊎_elim (λ t. let e = length_open i h t in (omega arith, omega arith)) (λ t. let e = (length_add i h t).0 in (omega arith, omega arith)) (cases_Bool (open_test (wire_words ws) i))
 
   -- at most one entry a wire
   pub length_most : (i : ℕ) → i ≤ c.wires → length (entries_to ws i) ≤ i

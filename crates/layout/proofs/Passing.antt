@@ -51,10 +51,10 @@ module _ (ws : List ℕ) (c : Counts) (l : Listing ws c) where
             (λ s. b.below j (omega arith)) (cases_eq j i);
       }
 
-  pub pairs_open : (row i p : ℕ) → Below ws row (passing i p) → i < c.wires → true ≡ open_test ws c i → p + 1 ≡ length (entries_to ws (i + 1))
+  pub pairs_open : (row i p : ℕ) → Below ws row (passing i p) → i < c.wires → true ≡ open_test (wire_words ws) i → p + 1 ≡ length (entries_to ws (i + 1))
   pairs_open row i p b h t = ap (λ n. n + 1) b.pairs ∙ sym (length_open ws c l i h (sym t))
 
-  pub pairs_add : (row i p : ℕ) → Below ws row (passing i p) → i < c.wires → false ≡ open_test ws c i → p ≡ length (entries_to ws (i + 1))
+  pub pairs_add : (row i p : ℕ) → Below ws row (passing i p) → i < c.wires → false ≡ open_test (wire_words ws) i → p ≡ length (entries_to ws (i + 1))
   pairs_add row i p b h t = b.pairs ∙ sym (length_add ws c l i h (sym t)).0
 
   -- at a wire from the row or above, and at the end, the pairs are those of the rows before

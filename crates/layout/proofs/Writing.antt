@@ -9,7 +9,7 @@ use Rattle.sets.specs.Sets as sets
 use Rattle.stores.specs.declared.entry.Entry.{Entry}
 use Rattle.listing.specs.declared.counts.Counts.{Counts}
 use Rattle.listing.specs.Words.{wire_to, wire_type}
-use Rattle.listing.specs.Listings.{Listing, word}
+use Rattle.listing.specs.Listings.{Listing, word, wire_words}
 use Rattle.listing.specs.Graphs.{stated}
 use Rattle.layout.specs.Layouts.{entry, entries_of, start_of, starts_of, laid}
 use Rattle.layout.proofs.Steps.{no_entries}
@@ -72,10 +72,10 @@ entries_none ws es =
 
 module _ (ws : List ℕ) (c : Counts) (l : Listing ws c) (es : List Entry) (room : length (entries_of (stated ws)) ≤ length es) (i : ℕ) (h : i < c.wires) where
   -- a wire that opens a pair has room for its entry
-  pub room_open : open_test ws c i ≡ true → length (entries_to ws i) < length es
+  pub room_open : open_test (wire_words ws) i ≡ true → length (entries_to ws i) < length es
   room_open t = let a = length_open ws c l i h t in let b = length_within ws c l (i + 1) (omega arith) in omega arith
 
-  pub entries_pushed : (n : ℕ) (xs : List Entry) (x : Entry) → open_test ws c i ≡ true → n ≡ length (entries_to ws i) → xs ≡ laid (entries_to ws i) es
+  pub entries_pushed : (n : ℕ) (xs : List Entry) (x : Entry) → open_test (wire_words ws) i ≡ true → n ≡ length (entries_to ws i) → xs ≡ laid (entries_to ws i) es
       → x ≡ entry (wire_to (word ws (1 + c.blocks + i))) (added (wire_type (word ws (1 + c.blocks + i))) (sets.set 0))
       → (n + 1 ≡ length (entries_to ws (i + 1))) × (set xs n x ≡ laid (entries_to ws (i + 1)) es)
   entries_pushed n xs x t en exs ex = (
@@ -85,10 +85,10 @@ module _ (ws : List ℕ) (c : Counts) (l : Listing ws c) (es : List Entry) (room
   )
 
   -- the last entry, where a wire adds its type to it
-  pub room_add : open_test ws c i ≡ false → (0 < length (entries_to ws i)) × (length (entries_to ws i) ≤ length es)
+  pub room_add : open_test (wire_words ws) i ≡ false → (0 < length (entries_to ws i)) × (length (entries_to ws i) ≤ length es)
   room_add t = let a = (length_add ws c l i h t).1 in let b = length_within ws c l i (omega arith) in (a, omega arith)
 
-  pub entries_grown : (n : ℕ) (xs : List Entry) (x d : Entry) → open_test ws c i ≡ false → n ≡ length (entries_to ws i) → xs ≡ laid (entries_to ws i) es
+  pub entries_grown : (n : ℕ) (xs : List Entry) (x d : Entry) → open_test (wire_words ws) i ≡ false → n ≡ length (entries_to ws i) → xs ≡ laid (entries_to ws i) es
       → x ≡ entry (get_or xs (n - 1) d).to (added (wire_type (word ws (1 + c.blocks + i))) (get_or xs (n - 1) d).types)
       → (n ≡ length (entries_to ws (i + 1))) × (set xs (n - 1) x ≡ laid (entries_to ws (i + 1)) es)
   entries_grown n xs x d t en exs ex =

@@ -5,8 +5,8 @@ ghost use Rattle.layout.specs.Layouts.{layout_answer, starts_left, entries_left}
 ghost use Rattle.layout.specs.Refills.{Refilled};
 
 use crate::fault::LayoutFault;
-use crate::wires::Wires;
-use listing::check::check;
+use crate::wires::{count_pairs, write_entries, write_starts};
+use listing::listing_words::ListingWords;
 use stores::entry::Entry;
 
 /// Writes the layout of a listing into the two buffers, and answers how many entries it has. The starts take one place more
@@ -21,16 +21,16 @@ pub fn layout(
     ensures entries { entries.new ≡ entries_left words.now starts.old entries.old }
     ensures means { IfOk result (λ n. Refilled words.now (take (block_count (stated words.now) + 1) starts.new) (take n entries.new)) }
 {
-    let counts = check(words)?;
+    let listing = ListingWords::of(words)?;
+    let counts = listing.counts();
     if starts.len() < counts.blocks + 1 {
         return Err(LayoutFault::ShortStarts);
     }
-    let wires = Wires { words, counts };
-    let pairs = wires.pairs();
+    let pairs = count_pairs(&listing);
     if entries.len() < pairs {
         return Err(LayoutFault::ShortEntries);
     }
-    wires.write_starts(starts);
-    wires.write_entries(entries);
+    write_starts(&listing, starts);
+    write_entries(&listing, entries);
     Ok(pairs)
 }

@@ -1,4 +1,4 @@
-ghost use Rattle.std.specs.Prelude.{◌≡◌, ◌≤◌, true, [], ◌++◌, drop, is_ok, if◌then◌else◌, IfOk};
+ghost use Rattle.std.specs.Prelude.{◌≡◌, ◌+◌, ◌≤◌, true, [], ◌++◌, take, drop, is_ok, if◌then◌else◌, IfOk};
 ghost use Rattle.model.specs.Graphs.{block_count};
 ghost use Rattle.stores.specs.ListingStores.{is_read, fault_part, read_answer, gathered};
 ghost use Rattle.listing.specs.Graphs.{stated};
@@ -66,25 +66,27 @@ impl<'a> ListingStore<'a> {
         words.len()
     }
 
-    // The words of the blocks, in block order. A store that has read nothing has none.
+    // The words of the blocks, in block order.
     fn block_words(&self) -> &[u32]
         ensures { result.now ≡ block_words self.now.words.now }
     {
-        let end = 1 + self.counts.blocks;
-        match self.words.get(1..end) {
-            Some(words) => words,
-            None => &[],
-        }
+        self.part(1, self.counts.blocks)
     }
 
-    // The words of the wires. A store that has read nothing has none.
+    // The words of the wires.
     fn wire_words(&self) -> &[u32]
         ensures { result.now ≡ wire_words self.now.words.now }
     {
-        let start = 1 + self.counts.blocks;
-        let end = start + self.counts.wires;
-        match self.words.get(start..end) {
-            Some(wires) => wires,
+        self.part(1 + self.counts.blocks, self.counts.wires)
+    }
+
+    // So many words from a place on. A store that has read nothing has none.
+    fn part(&self, from: usize, count: usize) -> &[u32]
+        requires { from + count ≤ 1 + self.now.counts.blocks + self.now.counts.wires }
+        ensures { result.now ≡ take count (drop from self.now.words.now) }
+    {
+        match self.words.get(from..from + count) {
+            Some(words) => words,
             None => &[],
         }
     }
