@@ -15,7 +15,7 @@ use stores::row_store::RowStore;
 
 const STARTS: usize = MOST_BLOCKS + 1;
 
-const QUESTIONS: u64 = 36864;
+const QUESTIONS: u64 = (MOST_BLOCKS * MOST_BLOCKS) as u64;
 
 // A listing of 192 blocks and 1,024 wires, spread over all blocks.
 fn full_listing(heap: Global) -> Result<Vec<u32>, AllocError> {

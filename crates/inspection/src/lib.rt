@@ -9,12 +9,12 @@ ghost use Rattle.inspection.specs.Printouts.{file_line, file_graph_line, printou
 use lines::fault::LineFault;
 use lines::graph::{GRAPH_LINE, graph_line};
 use lines::role::Role;
-use lines::write::{count_line, fault_line};
+use lines::write::{ROOM, count_line, fault_line};
 use listing::file::{FILE_WORDS, check_file};
 use refusal::{Place, Refusal};
 
 /// How many bytes the printout of two files has at most.
-pub const PRINTOUT: usize = 128;
+pub const PRINTOUT: usize = 2 * ROOM;
 
 /// Writes the line of a file with these bytes: its counts, or its first fault. Answers the line's length.
 /// A buffer of under 64 bytes is refused, and left as it was.

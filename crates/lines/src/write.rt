@@ -8,7 +8,7 @@ use listing::counts::Counts;
 use refusal::{Place, RefusalNumber};
 
 /// How many bytes a buffer must have: every line fits in them.
-const ROOM: usize = 64;
+pub const ROOM: usize = 64;
 
 /// Writes the line that tells a refusal at the start of `out`, and answers its length.
 /// A buffer of under 64 bytes is refused, and left as it was.

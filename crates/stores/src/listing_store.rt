@@ -11,7 +11,7 @@ use listing::word::Word;
 use model::store::Store;
 use sets::Set;
 
-/// A store over the words of a listing, which are lent to it. It begins empty.
+/// A store over the words of a listing, which are lent to it, or an empty one.
 #[derive(Drop)]
 pub struct ListingStore<'a> {
     words: &'a [u32],
