@@ -1,16 +1,13 @@
 -- What the words of a listing store are good for: its questions index within them.
-use Rattle.std.proofs.Common.{◌≡◌, ℕ, ◌+◌, ◌<◌, ◌≤◌, true, false, ◌||◌, eqb, ◌⊎◌, List, [], ◌++◌, map, length, get_or, take, drop, is_ok, Some, None, Ok, Err, Result, sym, refl, ap, ◌∙◌, subst, ap₂, inl, inr, ⊎_elim, zero-add, arith}
+use Rattle.std.proofs.Common.{◌≡◌, ℕ, ◌+◌, ◌<◌, ◌≤◌, true, false, ◌||◌, eqb, List, [], ◌++◌, map, length, get_or, take, drop, Some, None, sym, refl, ap, ◌∙◌, ap₂, ⊎_elim, zero-add, arith}
 use Rattle.std.specs.Option.{option_map}
-use Rattle.std.proofs.lemmas.List.{nil_from_length, length-map, get_or-map}
+use Rattle.std.proofs.lemmas.List.{length-map, get_or-map}
 use Rattle.std.specs.List.{list_any, slice_get}
 use Rattle.std.proofs.lemmas.List.Folds.{list_any_more}
 use Rattle.std.proofs.lemmas.Option.{slice_get_past, slice_get-map, slice_get_read}
-use Rattle.std.proofs.lemmas.Bool.{or_left, or_cases, eqb-true, eq-eqb, both_ways, cases_Bool, and_parts, and_from}
+use Rattle.std.proofs.lemmas.Bool.{eqb-true, eq-eqb, both_ways, cases_Bool, and_parts, and_from}
 use Rattle.std.proofs.lemmas.Bool.Decides.{nat_tests}
-use Rattle.listing.specs.declared.counts.Counts.{Counts}
-use Rattle.listing.specs.declared.fault.Fault.{Fault}
-use Rattle.listing.specs.Listings.{Listing, counts_of, block_words, wire_words}
-use Rattle.listing.specs.Faults.{verdict}
+use Rattle.listing.specs.Listings.{block_words, wire_words}
 use Rattle.listing.specs.Graphs.{leads, runs, tag_set, stated}
 use Rattle.listing.specs.Words.{wire_from, wire_to, wire_type}
 use Rattle.sets.specs.Sets.{has, set, added}
@@ -18,48 +15,10 @@ use Rattle.sets.specs.declared.Set.{Set}
 use Rattle.sets.proofs.Membership.{has_nothing, has-set_of, word_is, set_of-alike, or_nothing}
 use lib.Seq.{paste}
 use Rattle.std.proofs.lemmas.List.Edits.{paste_more, paste_all}
-use Rattle.listing.proofs.Accepts.{accepts, ranges}
 use Rattle.listing.proofs.States.{runs_so}
-use Rattle.listing.proofs.Parts.{length_tags}
 use Rattle.model.specs.Graphs.{block_count, label_at, pair_at}
 use Rattle.model.proofs.Meanings.{pair_there}
-use Rattle.stores.specs.ListingStores.{is_read, gathered}
-
-pub read_accepted : (ws : List ℕ) (c : Counts) → Ok c ≡ verdict ws → is_read ws ≡ true
-read_accepted ws c e = or_left _ _ (ap is_ok (sym e))
-
--- words that are read are a listing, or none
-pub read_cases : (ws : List ℕ) → is_read ws ≡ true → Listing ws (counts_of ws) ⊎ (ws ≡ [])
-read_cases ws r = ⊎_elim (λ ok. inl (go (verdict ws) refl ok)) (λ e. inr (nil_from_length ws (eqb-true _ _ e))) (or_cases (is_ok (verdict ws)) (eqb (length ws) 0) r)
-  where
-    go : (v : Result Counts Fault) → verdict ws ≡ v → is_ok (verdict ws) ≡ true → Listing ws (counts_of ws)
-    go (Ok c) e ok = let l = (accepts ws c).0 e in subst (Listing ws) (sym l.counts) l
-    go (Err f) e ok = absurd (both_ways (is_ok (verdict ws)) (ap is_ok e) ok)
-
-module _ (ws : List ℕ) (c : Counts) (r : is_read ws ≡ true) (counted : c ≡ counts_of ws) where
-  same_blocks : c.blocks ≡ (counts_of ws).blocks
-  same_blocks = ap (λ (d : Counts). d.blocks) counted
-
-  same_wires : c.wires ≡ (counts_of ws).wires
-  same_wires = ap (λ (d : Counts). d.wires) counted
-
-  -- words that are too few are none
-  pub read_short : length ws ≤ c.blocks + c.wires → ws ≡ []
-  read_short h =
-      let b = same_blocks in
-      let n = same_wires in
-      ⊎_elim (λ l. let t = l.total in absurd (omega arith)) (λ e. e) (read_cases ws r)
-
-  pub read_count : c.blocks ≡ block_count (stated ws)
-  unfolding stated
-  read_count =
-      same_blocks
-      ∙ ⊎_elim (λ l. sym (length_tags ws l)) (λ e. subst (λ vs. (counts_of vs).blocks ≡ length (map tag_set (block_words vs))) (sym e) refl) (read_cases ws r)
-
-  pub read_few : c.blocks ≤ 192
-  read_few =
-      let b = same_blocks in
-      ⊎_elim (λ l. let few = (ranges ws l).1 in omega arith) (λ e. let none : (counts_of ws).blocks ≡ 0 = ap (λ vs. (counts_of vs).blocks) e in omega arith) (read_cases ws r)
+use Rattle.stores.specs.ListingStores.{gathered}
 
 -- ---- labels, by the block words
 module _ (ws : List ℕ) where

@@ -1,10 +1,12 @@
 -- What a listing store holds.
 --
---   is_read ws        the words ws are a listing, or there are none, as in a store that has read nothing
+--   words_in s        the words of the listing that the store s holds; none, if it holds no listing
 --   fault_part r      an answer without what it accepts with
 --   read_answer ws    what reading ws answers: nothing, or the first fault of ws
 --   gathered es u v   the set of the types of those of the wire words es that run from u to v
-use Rattle.std.specs.Prelude.{ℕ, Bool, ◌||◌, List, length, is_ok, Ok, Err, Result, ◌==◌}
+use Rattle.std.specs.Prelude.{ℕ, List, [], Ok, Err, Result}
+use Rattle.std.specs.Option.{option_map_or}
+use Rattle.stores.specs.declared.listing_store.ListingStore.{ListingStore}
 use Rattle.std.specs.List.{list_any}
 use Rattle.listing.specs.declared.fault.Fault.{Fault}
 use Rattle.listing.specs.Faults.{verdict}
@@ -12,8 +14,8 @@ use Rattle.listing.specs.Graphs.{runs}
 use Rattle.sets.specs.Sets.{set, set_of}
 use Rattle.sets.specs.declared.Set.{Set}
 
-abbrev pub is_read : List ℕ → Bool
-is_read ws = is_ok (verdict ws) || length ws == 0
+abbrev pub words_in : ListingStore → List ℕ
+words_in s = option_map_or (λ l. l.words.now) s.listing []
 
 abbrev pub fault_part : {X : Type 0} → Result X Fault → Result (Unit {0}) Fault
 fault_part (Ok x) = Ok tt

@@ -1,53 +1,46 @@
-ghost use Rattle.std.specs.Prelude.{◌≡◌, ◌+◌, ◌≤◌, true, [], ◌++◌, take, drop, is_ok, if◌then◌else◌, IfOk};
+ghost use Rattle.std.specs.Prelude.{◌≡◌, ◌≤◌, [], ◌++◌, length, drop, is_ok, IfOk, if◌then◌else◌};
 ghost use Rattle.model.specs.Graphs.{block_count};
-ghost use Rattle.stores.specs.ListingStores.{is_read, fault_part, read_answer, gathered};
+ghost use Rattle.stores.specs.ListingStores.{words_in, fault_part, read_answer, gathered};
 ghost use Rattle.listing.specs.Graphs.{stated};
-ghost use Rattle.listing.specs.Listings.{counts_of, block_words, wire_words};
+ghost use Rattle.listing.specs.Listings.{block_words, wire_words};
 
-use listing::check::check;
-use listing::counts::{Counts, MOST_BLOCKS};
+use listing::counts::MOST_BLOCKS;
 use listing::fault::Fault;
+use listing::listing_words::ListingWords;
 use listing::word::Word;
 use model::store::Store;
 use sets::Set;
 
 /// A store over the words of a listing, which are lent to it, or an empty one.
-#[derive(Drop)]
+#[derive(Clone, Copy)]
 pub struct ListingStore<'a> {
-    words: &'a [u32],
-    counts: Counts,
-    ghost listed: { is_read words.now ≡ true },
-    ghost counted: { counts ≡ counts_of words.now },
+    listing: Option<ListingWords<'a>>,
 }
 
 impl<'a> ListingStore<'a> {
     /// The store with no block.
     pub fn empty() -> ListingStore<'a>
-        ensures { result.words.now ≡ [] }
+        ensures { words_in result ≡ [] }
     {
-        ListingStore {
-            words: &[],
-            counts: Counts {
-                blocks: 0,
-                wires: 0,
-            },
-        }
+        ListingStore { listing: None }
     }
 
     /// The store of a listing's words. Words that are no listing are refused as the check refuses them.
     pub fn of(words: &'a [u32]) -> Result<ListingStore<'a>, Fault>
         ensures answer { fault_part result ≡ read_answer words.now }
-        ensures holds { IfOk result (λ s. s.words.now ≡ words.now) }
+        ensures holds { IfOk result (λ s. words_in s ≡ words.now) }
     {
-        let counts = check(words)?;
-        Ok(ListingStore { words, counts })
+        let listing = ListingWords::of(words)?;
+        Ok(ListingStore {
+            listing: Some(listing),
+        })
     }
 
     /// Makes it the store of a listing's words. Words that are no listing are refused as the check refuses them, and the
     /// store is then left as it was.
     pub fn read(&mut self, words: &'a [u32]) -> Result<(), Fault>
         ensures answer { result ≡ read_answer words.now }
-        ensures left { self.new.words.now ≡ (if is_ok result then words.now else self.old.words.now) }
+        ensures left { words_in self.new ≡ (if is_ok result then words.now else words_in self.old) }
     {
         *self = ListingStore::of(words)?;
         Ok(())
@@ -55,8 +48,8 @@ impl<'a> ListingStore<'a> {
 
     /// Writes the label of each block into a memory of labels, in block order, and answers how many they are.
     pub fn write_labels(&self, memory: &mut [Set; MOST_BLOCKS]) -> usize
-        ensures answer { result ≡ block_count (stated self.now.words.now) }
-        ensures left { memory.new ≡ (stated self.now.words.now).labels ++ drop (block_count (stated self.now.words.now)) memory.old }
+        ensures answer { result ≡ block_count (stated (words_in self.now)) }
+        ensures left { memory.new ≡ (stated (words_in self.now)).labels ++ drop (block_count (stated (words_in self.now))) memory.old }
         ensures within { result ≤ 192 }
     {
         let words = self.block_words();
@@ -67,26 +60,22 @@ impl<'a> ListingStore<'a> {
     }
 
     // The words of the blocks, in block order.
-    fn block_words(&self) -> &[u32]
-        ensures { result.now ≡ block_words self.now.words.now }
+    fn block_words(&self) -> &'a [u32]
+        ensures value { result.now ≡ block_words (words_in self.now) }
+        ensures few { length result.now ≤ 192 }
     {
-        self.part(1, self.counts.blocks)
+        match &self.listing {
+            Some(listing) => listing.block_words(),
+            None => &[],
+        }
     }
 
     // The words of the wires.
-    fn wire_words(&self) -> &[u32]
-        ensures { result.now ≡ wire_words self.now.words.now }
+    fn wire_words(&self) -> &'a [u32]
+        ensures { result.now ≡ wire_words (words_in self.now) }
     {
-        self.part(1 + self.counts.blocks, self.counts.wires)
-    }
-
-    // So many words from a place on. A store that has read nothing has none.
-    fn part(&self, from: usize, count: usize) -> &[u32]
-        requires { from + count ≤ 1 + self.now.counts.blocks + self.now.counts.wires }
-        ensures { result.now ≡ take count (drop from self.now.words.now) }
-    {
-        match self.words.get(from..from + count) {
-            Some(words) => words,
+        match &self.listing {
+            Some(listing) => listing.wire_words(),
             None => &[],
         }
     }
@@ -97,10 +86,10 @@ impl<'a> Store for ListingStore<'a> {
 
     type Pair = Set;
 
-    ghost graph = { λ s. stated s.words.now };
+    ghost graph = { λ s. stated (words_in s) };
 
     fn count(&self) -> usize {
-        self.counts.blocks
+        self.block_words().len()
     }
 
     fn label(&self, block: usize) -> Option<Set> {
@@ -109,7 +98,7 @@ impl<'a> Store for ListingStore<'a> {
     }
 
     fn pair(&self, from: usize, to: usize) -> Option<Set> {
-        let blocks = self.counts.blocks;
+        let blocks = self.count();
         if from >= blocks || to >= blocks {
             return None;
         }

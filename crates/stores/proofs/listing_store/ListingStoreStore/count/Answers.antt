@@ -1,5 +1,7 @@
-use Rattle.stores.proofs.ListingStores.{read_count}
+use Rattle.std.proofs.Common.{rules}
+use Rattle.stores.specs.ListingStores.{words_in}
+use Rattle.stores.proofs.ListingStores.{count_words}
 use Rattle.stores.proofs.listing_store.ListingStoreStore.count.Goals as goal
 
 pub returns : goal.returns
-returns c = let s = c.args.self.now in read_count s.words.now s.counts s.listed s.counted
+returns c = let n = count_words (words_in c.args.self.now) in search rules
