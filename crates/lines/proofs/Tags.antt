@@ -57,8 +57,8 @@ module _ (old line : List ℕ) (n s : ℕ) (so_far : line ≡ old ++ tags_below 
       ap (λ xs. xs ++ text) so_far ∙ append_assoc old (tags_below n s) text ∙ ap (λ xs. old ++ (tags_below n s ++ xs)) (sym is)
       ∙ ap (λ xs. old ++ xs) (tags_more n s)
 
-  pub tag_added : has n s ≡ true → (line ++ codes " ") ++ decimal n ≡ old ++ tags_below (n + 1) s
-  tag_added inside = append_assoc line (codes " ") (decimal n) ∙ more (tag_present s n inside)
+  pub tag_added : has n s ≡ true → line ++ (codes " " ++ decimal n) ≡ old ++ tags_below (n + 1) s
+  tag_added inside = more (tag_present s n inside)
 
   pub tag_skipped : has n s ≡ false → line ≡ old ++ tags_below (n + 1) s
   tag_skipped outside = sym (append-nil line) ∙ more (tag_absent s n outside)

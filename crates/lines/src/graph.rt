@@ -1,4 +1,4 @@
-ghost use Rattle.std.specs.Prelude.{◌≡◌, ◌<◌, ◌≤◌, length, IfSome};
+ghost use Rattle.std.specs.Prelude.{◌≡◌, ◌<◌, ◌≤◌, length, Some};
 ghost use Rattle.lines.specs.GraphLines.{Short, block_line, graph_line, line_length, line_over, wire_line};
 ghost use Rattle.listing.specs.Words.{block_tags};
 
@@ -15,54 +15,47 @@ pub fn graph_line(words: &[u32], index: usize, out: &mut [u8; GRAPH_LINE]) -> Op
     ensures left { out.new ≡ line_over (graph_line words.now index) out.old }
     ensures within { Short result }
 {
-    let line = line_at(words, index)?;
-    Some(line.write(out))
-}
-
-// Line `index` of the graph that the words tell.
-fn line_at(words: &[u32], index: usize) -> Option<Line>
-    ensures line { result ≡ graph_line words.now index }
-    ensures short { IfSome result (λ line. length line ≤ 80) }
-{
     let counts = Word(*words.first()?).counts();
     if index >= counts.blocks + counts.wires {
         return None;
     }
     let word = Word(*words.get(index + 1)?);
     if index < counts.blocks {
-        Some(block_line(index, word))
+        Some(block_line(index, word, out))
     } else {
-        Some(wire_line(word))
+        Some(wire_line(word, out))
     }
 }
 
-// The line of a block.
-fn block_line(number: usize, word: Word) -> Line
+// Writes the line of a block at the start of `out`, and answers its length.
+fn block_line(number: usize, word: Word, out: &mut [u8; GRAPH_LINE]) -> usize
     requires { number < 65536 }
-    ensures line { result ≡ block_line number (block_tags word.0) }
-    ensures short { length result ≤ 80 }
+    ensures answer { result ≡ length (block_line number (block_tags word.0)) }
+    ensures left { out.new ≡ line_over (Some (block_line number (block_tags word.0))) out.old }
+    ensures short { result ≤ 80 }
 {
     let mut line = Line::new();
     line.text(b"block ");
     line.number(number);
     line.text(b" tags");
     line.tags(word.tags());
-    line.text(b"\n");
-    line
+    line.byte(b'\n');
+    line.write(out)
 }
 
-// The line of a wire.
-fn wire_line(word: Word) -> Line
-    ensures line { result ≡ wire_line word.0 }
-    ensures short { length result ≤ 80 }
+// Writes the line of a wire at the start of `out`, and answers its length.
+fn wire_line(word: Word, out: &mut [u8; GRAPH_LINE]) -> usize
+    ensures answer { result ≡ length (wire_line word.0) }
+    ensures left { out.new ≡ line_over (Some (wire_line word.0)) out.old }
+    ensures short { result ≤ 80 }
 {
     let mut line = Line::new();
     line.text(b"wire ");
     line.number(word.from());
-    line.text(b" ");
+    line.byte(b' ');
     line.number(word.to());
     line.text(b" type ");
     line.number(word.wire_type());
-    line.text(b"\n");
-    line
+    line.byte(b'\n');
+    line.write(out)
 }

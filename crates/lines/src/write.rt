@@ -22,7 +22,7 @@ pub fn fault_line(
     ensures left { out.new ≡ line_left (fault_line role number.0 place.0) out.old }
     ensures within { IfOk result (λ n. n ≤ 64) }
 {
-    put_line(number_line(role, number.0, b" at ", place.0, b"\n"), out)
+    put_line(role, number.0, b" at ", place.0, b"\n", out)
 }
 
 /// Writes the line that tells the counts of a listing at the start of `out`, and answers its length.
@@ -32,19 +32,25 @@ pub fn count_line(role: Role, counts: Counts, out: &mut [u8]) -> Result<usize, L
     ensures left { out.new ≡ line_left (count_line role counts) out.old }
     ensures within { IfOk result (λ n. n ≤ 64) }
 {
-    let line = number_line(role, counts.blocks, b" blocks ", counts.wires, b" wires\n");
-    put_line(line, out)
+    put_line(
+        role,
+        counts.blocks,
+        b" blocks ",
+        counts.wires,
+        b" wires\n",
+        out,
+    )
 }
 
 // The line of the role's word, a space, `first`, `middle`, `second` and `end`.
 fn number_line(role: Role, first: usize, middle: &[u8], second: usize, end: &[u8]) -> Line
     requires { (length middle.now ≤ 8) × (length end.now ≤ 7) }
     ensures line { result ≡ number_line role first middle.now second end.now }
-    ensures short { length result ≤ 64 }
+    ensures short { length result ≤ 63 }
 {
     let mut line = Line::new();
     line.text(role.word());
-    line.text(b" ");
+    line.byte(b' ');
     line.number(first);
     line.text(middle);
     line.number(second);
@@ -52,15 +58,22 @@ fn number_line(role: Role, first: usize, middle: &[u8], second: usize, end: &[u8
     line
 }
 
-// Writes a line at the start of `out`, and answers its length.
-fn put_line(line: Line, out: &mut [u8]) -> Result<usize, LineFault>
-    requires { length line ≤ 64 }
-    ensures answer { result ≡ line_answer line out.old }
-    ensures left { out.new ≡ line_left line out.old }
+// Writes the line of these parts at the start of `out`, and answers its length.
+fn put_line(
+    role: Role,
+    first: usize,
+    middle: &[u8],
+    second: usize,
+    end: &[u8],
+    out: &mut [u8],
+) -> Result<usize, LineFault>
+    requires { (length middle.now ≤ 8) × (length end.now ≤ 7) }
+    ensures answer { result ≡ line_answer (number_line role first middle.now second end.now) out.old }
+    ensures left { out.new ≡ line_left (number_line role first middle.now second end.now) out.old }
     ensures within { IfOk result (λ n. n ≤ 64) }
 {
     if out.len() < ROOM {
         return Err(LineFault::ShortBuffer);
     }
-    Ok(line.write(out))
+    Ok(number_line(role, first, middle, second, end).write(out))
 }

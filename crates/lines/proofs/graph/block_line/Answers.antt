@@ -6,8 +6,14 @@ use Rattle.lines.proofs.graph.block_line.Goals as goal
 pub tags-requires-2 : goal.tags-requires-2
 tags-requires-2 c = let digits = length_decimal_number c.args.number (omega arith) in search rules
 
-pub returns-clause-line : goal.returns-clause-line
-returns-clause-line c = let joined = block_line_joined c.args.number (block_tags c.args.word.0) in search rules
+pub write-requires : goal.write-requires
+write-requires c = let digits = length_decimal_number c.args.number (omega arith) in search rules
+
+pub returns-clause-answer : goal.returns-clause-answer
+returns-clause-answer c = let joined = block_line_joined c.args.number (block_tags c.args.word.0) in search rules
+
+pub returns-clause-left : goal.returns-clause-left
+returns-clause-left c = let joined = block_line_joined c.args.number (block_tags c.args.word.0) in search rules
 
 pub returns-clause-short : goal.returns-clause-short
 returns-clause-short c = let digits = length_decimal_number c.args.number (omega arith) in search rules

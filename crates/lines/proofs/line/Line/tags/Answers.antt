@@ -1,24 +1,18 @@
-use Rattle.std.proofs.Common.{◌++◌, decimal, sym, ap, ◌∙◌, arith, append-nil}
-use Rattle.lines.proofs.Tags.{tags_none, tag_added, tag_skipped, length_so_far, length_tag_number}
+use Rattle.std.proofs.Common.{◌++◌, sym, ap, ◌∙◌, arith, append-nil}
+use Rattle.lines.proofs.Tags.{tags_none, tag_added, tag_skipped, length_so_far}
 use Rattle.lines.proofs.line.Line.tags.Goals.{then-has, else-has}
 use Rattle.lines.proofs.line.Line.tags.Goals as goal
 
 pub loop-tag-init : goal.loop-tag-init
 loop-tag-init c = sym (ap (λ text. c.args.self.now ++ text) (tags_none c.args.tags.0) ∙ append-nil c.args.self.now)
 
-pub text-requires : goal.text-requires
-text-requires c = omega (arith, length_so_far _ _ c.loop-tag.tag c.args.tags.0 c.loop-tag.invariant (omega arith))
-
-pub number-requires : goal.number-requires
-number-requires c =
-    let before = length_so_far _ _ c.loop-tag.tag c.args.tags.0 c.loop-tag.invariant (omega arith) in
-    let digits = length_tag_number c.loop-tag.tag (omega arith) in
-    omega (arith, c.text.ensures.long)
+pub tag-requires : goal.tag-requires
+tag-requires c = (omega arith, omega (arith, length_so_far _ _ c.loop-tag.tag c.args.tags.0 c.loop-tag.invariant (omega arith)))
 
 pub loop-tag-preserved : goal.loop-tag-preserved
 loop-tag-preserved c =
     elim c.if-has.branch [
-      | then-has w ↦ w.self-is ∙ w.number.ensures.bytes ∙ ap (λ xs. xs ++ decimal c.loop-tag.tag) w.text.ensures.bytes ∙ tag_added _ _ c.loop-tag.tag c.args.tags.0 c.loop-tag.invariant (sym c.has.ensures ∙ w.if-has.true)
+      | then-has w ↦ w.self-is ∙ w.tag.ensures.bytes ∙ tag_added _ _ c.loop-tag.tag c.args.tags.0 c.loop-tag.invariant (sym c.has.ensures ∙ w.if-has.true)
       | else-has w ↦ w.self-is ∙ tag_skipped _ _ c.loop-tag.tag c.args.tags.0 c.loop-tag.invariant (sym c.has.ensures ∙ w.if-has.false)
     ]
 
