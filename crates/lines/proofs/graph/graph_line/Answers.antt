@@ -1,4 +1,4 @@
-use Rattle.std.proofs.Common.{◌≡◌, ◌+◌, ◌<◌, ◌≤◌, length, get_or, Some, sym, ap, ◌∙◌, rules, arith}
+use Rattle.std.proofs.Common.{◌≡◌, ◌+◌, ◌<◌, ◌≤◌, length, get_or, Some, sym, ap, ◌∙◌, rules, arith, get_or-take}
 use Rattle.lines.proofs.Places.{block-at, none_past_counts, none_past_words, wire_at}
 use Rattle.lines.specs.GraphLines.{block_line, line_length, line_over, wire_line}
 use Rattle.listing.specs.Listings.{counts_of}
@@ -25,7 +25,7 @@ pub returns-then-index-counts-2 : goal.returns-then-index-counts-2
 returns-then-index-counts-2 c =
     let below : c.args.index < (counts_of c.args.words.now).blocks = search rules in
     let inside : c.args.index + 1 < length c.args.words.now = search rules in
-    let there : c.in_ok-get.field-0.now ≡ get_or c.args.words.now (c.args.index + 1) 0 = search rules in
+    let there : c.in_ok-get.field-0.now ≡ get_or c.args.words.now (c.args.index + 1) 0 = search (rules, get_or-take) in
     let is = ap (λ w. Some (block_line c.args.index (block_tags w))) there ∙ sym (block-at c.args.words.now c.args.index below inside) in
     record {
       answer = ap Some c.block_line.ensures.answer ∙ ap line_length is;
@@ -38,7 +38,7 @@ returns-else-index-counts-2 c =
     let above : (counts_of c.args.words.now).blocks ≤ c.args.index = search rules in
     let below : c.args.index < (counts_of c.args.words.now).blocks + (counts_of c.args.words.now).wires = search rules in
     let inside : c.args.index + 1 < length c.args.words.now = search rules in
-    let there : c.in_ok-get.field-0.now ≡ get_or c.args.words.now (c.args.index + 1) 0 = search rules in
+    let there : c.in_ok-get.field-0.now ≡ get_or c.args.words.now (c.args.index + 1) 0 = search (rules, get_or-take) in
     let is = ap (λ w. Some (wire_line w)) there ∙ sym (wire_at c.args.words.now c.args.index above below inside) in
     record {
       answer = ap Some c.wire_line.ensures.answer ∙ ap line_length is;
