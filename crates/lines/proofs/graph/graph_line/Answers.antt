@@ -21,6 +21,7 @@ returns-in_err-get c =
     let none = none_past_words c.args.words.now c.args.index (search rules) in
     record { answer = c.from_residual-in_err-get.ensures ∙ sym (ap line_length none); left = sym (ap (λ line. line_over line c.args.out.now) none); within = search rules }
 
+-- `get_or-take`: that the word is the one at the place holds of the words, and of any part of them that reaches it
 pub returns-then-index-counts-2 : goal.returns-then-index-counts-2
 returns-then-index-counts-2 c =
     let below : c.args.index < (counts_of c.args.words.now).blocks = search rules in
